@@ -1,0 +1,12 @@
+pub mod Attempt
+pub mod Catalogue
+pub mod World
+pub mod Query
+pub mod Meaning
+pub mod Counted
+pub mod Plan
+pub mod Operators
+pub mod Run
+pub mod Translation
+pub mod Written
+pub mod Calls
