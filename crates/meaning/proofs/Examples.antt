@@ -1,38 +1,208 @@
--- trial
-use Prim.Native.Nat.{ℕ, zero, suc, _+_}
+-- The marked examples of document 01 ('Marked examples'), as one table and one statement, over bytes. Where an engine is meant
+-- both are asked: the evaluator on the query's bytes, the runner on the bytes of the translated plan.
+--     integer, boolean, sequence ..     the bytes of a query record, its operands after it
+--     row size level kind prop          the bytes of a catalogue row
+--     Ask                               a question to the calls: a query's items, its plan's size, its run or its evaluation
+--                                       in so many lent cells
+--     Told                              what the calls tell
+--     told ask                          the calls' answers to a question
+--     examples                          the table: a question, and what must be told
+--     marked                            every question is told what the table says
+use Prim.Native.Nat.{ℕ, zero, suc, _+_, _-_, _*_}
 use mathlib.Core.Path.{_≡_, refl}
-use mathlib.Core.List.{List, [], _∷_, _++_}
+use mathlib.Core.List.{List, [], _∷_, _++_, map}
 use lib.IntN.{ℤ, pos, negsuc}
-use lib.ListN.{replicate}
-use Rattle.meaning.specs.Calls.{Answer, refused, Outcome}
+use lib.ListN.{length, take, drop, getD}
+use Rattle.laws.specs.Lists as Lists
+use Rattle.laws.specs.Sorting as Sorting
+use Rattle.cells.specs.Cell as Cell
+use Rattle.cells.specs.Bytes as Bytes
+use Rattle.meaning.specs.Attempt as Attempt
+use Rattle.meaning.specs.Catalogue as Catalogue
+use Rattle.meaning.specs.World as World
+use Rattle.meaning.specs.Query as Query
+use Rattle.meaning.specs.Meaning as Meaning
+use Rattle.meaning.specs.Counted as Counted
+use Rattle.meaning.specs.Plan as Plan
+use Rattle.meaning.specs.Operators as Operators
+use Rattle.meaning.specs.Run as Run
+use Rattle.meaning.specs.Translation as Translation
+use Rattle.meaning.specs.Written as Written
 use Rattle.meaning.specs.Calls as Calls
-use Rattle.laws.specs.Lists as Listsx
-use Rattle.laws.specs.Sorting as Sortingx
-use Rattle.cells.specs.Cell as Cellx
-use Rattle.cells.specs.Bytes as Bytesx
-use Rattle.meaning.specs.Attempt as Attemptx
-use Rattle.meaning.specs.Catalogue as Cataloguex
-use Rattle.meaning.specs.World as Worldx
-use Rattle.meaning.specs.Query as Queryx
-use Rattle.meaning.specs.Meaning as Meaningx
-use Rattle.meaning.specs.Counted as Countedx
-use Rattle.meaning.specs.Plan as Planx
-use Rattle.meaning.specs.Operators as Operatorsx
-use Rattle.meaning.specs.Run as Runx
-use Rattle.meaning.specs.Translation as Translationx
-use Rattle.meaning.specs.Written as Writtenx
 
-ql10 : List ℕ
-ql10 = 0x51 ∷ 0x4C ∷ 0 ∷ 0 ∷ 0 ∷ 10 ∷ []
+-- Query records
 
-t1 : Calls.evaluateCall ql10 [] 3 ≡ record { answer = Calls.gives (1 ∷ 1 ∷ []); left = pos 10 ∷ pos 0 ∷ pos 0 ∷ [] }
-unfolding ql10 Rattle.laws.specs.Lists.filter Rattle.laws.specs.Lists.any Rattle.laws.specs.Lists.all Rattle.laws.specs.Lists.count Rattle.laws.specs.Lists.firsts Rattle.laws.specs.Lists.gather Rattle.laws.specs.Lists.below Rattle.laws.specs.Lists.sum Rattle.laws.specs.Sorting.insert Rattle.laws.specs.Sorting.sort Rattle.cells.specs.Cell.cellOf Rattle.cells.specs.Cell.inRange Rattle.cells.specs.Cell.same Rattle.cells.specs.Cell.before Rattle.cells.specs.Cell.held Rattle.cells.specs.Bytes.word Rattle.cells.specs.Bytes.signed Rattle.cells.specs.Bytes.int4 Rattle.cells.specs.Bytes.int8 Rattle.cells.specs.Bytes.fits Rattle.cells.specs.Bytes.bytesOf Rattle.cells.specs.Bytes.bits8 Rattle.meaning.specs.Attempt.attempt Rattle.meaning.specs.Attempt.reading Rattle.meaning.specs.Attempt.work Rattle.meaning.specs.Attempt.provided Rattle.meaning.specs.Attempt.unless Rattle.meaning.specs.Attempt.refusing Rattle.meaning.specs.Attempt.trying Rattle.meaning.specs.Attempt.within Rattle.meaning.specs.Attempt.each Rattle.meaning.specs.Catalogue.catalogueOf Rattle.meaning.specs.Catalogue.isName Rattle.meaning.specs.Catalogue.ownSound Rattle.meaning.specs.Catalogue.rowSound Rattle.meaning.specs.Catalogue.rowsSound Rattle.meaning.specs.Catalogue.deeper Rattle.meaning.specs.Catalogue.sizesExact Rattle.meaning.specs.Catalogue.catalogueRead Rattle.meaning.specs.World.integerIn Rattle.meaning.specs.World.integerOf Rattle.meaning.specs.World.ranged Rattle.meaning.specs.World.quotient Rattle.meaning.specs.World.function Rattle.meaning.specs.World.arith Rattle.meaning.specs.World.valueIn Rattle.meaning.specs.World.value Rattle.meaning.specs.World.truthFrom Rattle.meaning.specs.World.truth Rattle.meaning.specs.World.fragment Rattle.meaning.specs.World.isDescendant Rattle.meaning.specs.World.isChild Rattle.meaning.specs.World.axisHolds Rattle.meaning.specs.World.onAxis Rattle.meaning.specs.World.passes Rattle.meaning.specs.World.rankIn Rattle.meaning.specs.World.rankOf Rattle.meaning.specs.World.ranksOf Rattle.meaning.specs.World.reached Rattle.meaning.specs.World.step Rattle.meaning.specs.World.roots Rattle.meaning.specs.World.member Rattle.meaning.specs.World.rootOf Rattle.meaning.specs.World.worldOf Rattle.meaning.specs.Query.functionOf Rattle.meaning.specs.Query.axisOf Rattle.meaning.specs.Query.testOf Rattle.meaning.specs.Query.variableOf Rattle.meaning.specs.Query.fragmentOf Rattle.meaning.specs.Query.booleanOf Rattle.meaning.specs.Query.sized Rattle.meaning.specs.Query.recordOf Rattle.meaning.specs.Query.recordAt Rattle.meaning.specs.Query.bound Rattle.meaning.specs.Query.leaf Rattle.meaning.specs.Query.one Rattle.meaning.specs.Query.two Rattle.meaning.specs.Query.three Rattle.meaning.specs.Query.operands Rattle.meaning.specs.Query.read Rattle.meaning.specs.Query.queryRead Rattle.meaning.specs.Query.free Rattle.meaning.specs.Meaning.bind Rattle.meaning.specs.Meaning.apply Rattle.meaning.specs.Meaning.values Rattle.meaning.specs.Meaning.eval Rattle.meaning.specs.Counted.stand Rattle.meaning.specs.Counted.adding Rattle.meaning.specs.Counted.loop Rattle.meaning.specs.Counted.evaluate Rattle.meaning.specs.Plan.plainIn Rattle.meaning.specs.Plan.columnsAt Rattle.meaning.specs.Plan.sized Rattle.meaning.specs.Plan.attachAt Rattle.meaning.specs.Plan.projectAt Rattle.meaning.specs.Plan.numberAt Rattle.meaning.specs.Plan.functionAt Rattle.meaning.specs.Plan.stepAt Rattle.meaning.specs.Plan.operatorOf Rattle.meaning.specs.Plan.operatorAt Rattle.meaning.specs.Plan.tableWidth Rattle.meaning.specs.Plan.upTo6 Rattle.meaning.specs.Plan.columns Rattle.meaning.specs.Plan.widthOf Rattle.meaning.specs.Plan.placedAt Rattle.meaning.specs.Plan.lastOf Rattle.meaning.specs.Plan.ended Rattle.meaning.specs.Plan.planFrom Rattle.meaning.specs.Plan.planRead Rattle.meaning.specs.Operators.column Rattle.meaning.specs.Operators.sameRow Rattle.meaning.specs.Operators.attach Rattle.meaning.specs.Operators.project Rattle.meaning.specs.Operators.minus Rattle.meaning.specs.Operators.select Rattle.meaning.specs.Operators.join Rattle.meaning.specs.Operators.rising Rattle.meaning.specs.Operators.numberedAfter Rattle.meaning.specs.Operators.inGroup Rattle.meaning.specs.Operators.number Rattle.meaning.specs.Operators.added Rattle.meaning.specs.Operators.groups Rattle.meaning.specs.Operators.groupOf Rattle.meaning.specs.Operators.counts Rattle.meaning.specs.Operators.itemsInOrder Rattle.meaning.specs.Operators.truths Rattle.meaning.specs.Operators.once Rattle.meaning.specs.Operators.steps Rattle.meaning.specs.Operators.rooted Rattle.meaning.specs.Operators.make Rattle.meaning.specs.Run.run Rattle.meaning.specs.Run.cells Rattle.meaning.specs.Run.running Rattle.meaning.specs.Translation.next Rattle.meaning.specs.Translation.hold Rattle.meaning.specs.Translation.freeIn Rattle.meaning.specs.Translation.othersIn Rattle.meaning.specs.Translation.lifts Rattle.meaning.specs.Translation.lifted Rattle.meaning.specs.Translation.ruleL Rattle.meaning.specs.Translation.ruleR Rattle.meaning.specs.Translation.ruleE Rattle.meaning.specs.Translation.tailS Rattle.meaning.specs.Translation.headF Rattle.meaning.specs.Translation.tailF Rattle.meaning.specs.Translation.headI Rattle.meaning.specs.Translation.tailO Rattle.meaning.specs.Translation.tailC Rattle.meaning.specs.Translation.tailD Rattle.meaning.specs.Translation.tailX Rattle.meaning.specs.Translation.then Rattle.meaning.specs.Translation.tr Rattle.meaning.specs.Translation.tailLast Rattle.meaning.specs.Translation.plan Rattle.meaning.specs.Written.functionNumber Rattle.meaning.specs.Written.axisNumber Rattle.meaning.specs.Written.testNumber Rattle.meaning.specs.Written.testName Rattle.meaning.specs.Written.operatorBytes Rattle.meaning.specs.Written.written Rattle.meaning.specs.Calls.padded Rattle.meaning.specs.Calls.refusal Rattle.meaning.specs.Calls.room Rattle.meaning.specs.Calls.catalogueAnswer Rattle.meaning.specs.Calls.catalogueCall Rattle.meaning.specs.Calls.queryAnswer Rattle.meaning.specs.Calls.queryCall Rattle.meaning.specs.Calls.planOf Rattle.meaning.specs.Calls.translateOutcome Rattle.meaning.specs.Calls.translateCall Rattle.meaning.specs.Calls.lastTable Rattle.meaning.specs.Calls.flat Rattle.meaning.specs.Calls.runOutcome Rattle.meaning.specs.Calls.runCall Rattle.meaning.specs.Calls.evaluateOutcome Rattle.meaning.specs.Calls.evaluateCall
-t1 = refl
+integer : ℤ → List ℕ
+integer (pos n) = 0x51 ∷ 0x4C ∷ Bytes.bytesOf 4 n
+integer (negsuc n) = 0x51 ∷ 0x4C ∷ Bytes.bytesOf 4 (0xffff_ffff - n)
 
-t2 : Calls.translateCall ql10 50 .answer ≡ Calls.gives (5 ∷ 41 ∷ [])
-unfolding ql10 Rattle.laws.specs.Lists.filter Rattle.laws.specs.Lists.any Rattle.laws.specs.Lists.all Rattle.laws.specs.Lists.count Rattle.laws.specs.Lists.firsts Rattle.laws.specs.Lists.gather Rattle.laws.specs.Lists.below Rattle.laws.specs.Lists.sum Rattle.laws.specs.Sorting.insert Rattle.laws.specs.Sorting.sort Rattle.cells.specs.Cell.cellOf Rattle.cells.specs.Cell.inRange Rattle.cells.specs.Cell.same Rattle.cells.specs.Cell.before Rattle.cells.specs.Cell.held Rattle.cells.specs.Bytes.word Rattle.cells.specs.Bytes.signed Rattle.cells.specs.Bytes.int4 Rattle.cells.specs.Bytes.int8 Rattle.cells.specs.Bytes.fits Rattle.cells.specs.Bytes.bytesOf Rattle.cells.specs.Bytes.bits8 Rattle.meaning.specs.Attempt.attempt Rattle.meaning.specs.Attempt.reading Rattle.meaning.specs.Attempt.work Rattle.meaning.specs.Attempt.provided Rattle.meaning.specs.Attempt.unless Rattle.meaning.specs.Attempt.refusing Rattle.meaning.specs.Attempt.trying Rattle.meaning.specs.Attempt.within Rattle.meaning.specs.Attempt.each Rattle.meaning.specs.Catalogue.catalogueOf Rattle.meaning.specs.Catalogue.isName Rattle.meaning.specs.Catalogue.ownSound Rattle.meaning.specs.Catalogue.rowSound Rattle.meaning.specs.Catalogue.rowsSound Rattle.meaning.specs.Catalogue.deeper Rattle.meaning.specs.Catalogue.sizesExact Rattle.meaning.specs.Catalogue.catalogueRead Rattle.meaning.specs.World.integerIn Rattle.meaning.specs.World.integerOf Rattle.meaning.specs.World.ranged Rattle.meaning.specs.World.quotient Rattle.meaning.specs.World.function Rattle.meaning.specs.World.arith Rattle.meaning.specs.World.valueIn Rattle.meaning.specs.World.value Rattle.meaning.specs.World.truthFrom Rattle.meaning.specs.World.truth Rattle.meaning.specs.World.fragment Rattle.meaning.specs.World.isDescendant Rattle.meaning.specs.World.isChild Rattle.meaning.specs.World.axisHolds Rattle.meaning.specs.World.onAxis Rattle.meaning.specs.World.passes Rattle.meaning.specs.World.rankIn Rattle.meaning.specs.World.rankOf Rattle.meaning.specs.World.ranksOf Rattle.meaning.specs.World.reached Rattle.meaning.specs.World.step Rattle.meaning.specs.World.roots Rattle.meaning.specs.World.member Rattle.meaning.specs.World.rootOf Rattle.meaning.specs.World.worldOf Rattle.meaning.specs.Query.functionOf Rattle.meaning.specs.Query.axisOf Rattle.meaning.specs.Query.testOf Rattle.meaning.specs.Query.variableOf Rattle.meaning.specs.Query.fragmentOf Rattle.meaning.specs.Query.booleanOf Rattle.meaning.specs.Query.sized Rattle.meaning.specs.Query.recordOf Rattle.meaning.specs.Query.recordAt Rattle.meaning.specs.Query.bound Rattle.meaning.specs.Query.leaf Rattle.meaning.specs.Query.one Rattle.meaning.specs.Query.two Rattle.meaning.specs.Query.three Rattle.meaning.specs.Query.operands Rattle.meaning.specs.Query.read Rattle.meaning.specs.Query.queryRead Rattle.meaning.specs.Query.free Rattle.meaning.specs.Meaning.bind Rattle.meaning.specs.Meaning.apply Rattle.meaning.specs.Meaning.values Rattle.meaning.specs.Meaning.eval Rattle.meaning.specs.Counted.stand Rattle.meaning.specs.Counted.adding Rattle.meaning.specs.Counted.loop Rattle.meaning.specs.Counted.evaluate Rattle.meaning.specs.Plan.plainIn Rattle.meaning.specs.Plan.columnsAt Rattle.meaning.specs.Plan.sized Rattle.meaning.specs.Plan.attachAt Rattle.meaning.specs.Plan.projectAt Rattle.meaning.specs.Plan.numberAt Rattle.meaning.specs.Plan.functionAt Rattle.meaning.specs.Plan.stepAt Rattle.meaning.specs.Plan.operatorOf Rattle.meaning.specs.Plan.operatorAt Rattle.meaning.specs.Plan.tableWidth Rattle.meaning.specs.Plan.upTo6 Rattle.meaning.specs.Plan.columns Rattle.meaning.specs.Plan.widthOf Rattle.meaning.specs.Plan.placedAt Rattle.meaning.specs.Plan.lastOf Rattle.meaning.specs.Plan.ended Rattle.meaning.specs.Plan.planFrom Rattle.meaning.specs.Plan.planRead Rattle.meaning.specs.Operators.column Rattle.meaning.specs.Operators.sameRow Rattle.meaning.specs.Operators.attach Rattle.meaning.specs.Operators.project Rattle.meaning.specs.Operators.minus Rattle.meaning.specs.Operators.select Rattle.meaning.specs.Operators.join Rattle.meaning.specs.Operators.rising Rattle.meaning.specs.Operators.numberedAfter Rattle.meaning.specs.Operators.inGroup Rattle.meaning.specs.Operators.number Rattle.meaning.specs.Operators.added Rattle.meaning.specs.Operators.groups Rattle.meaning.specs.Operators.groupOf Rattle.meaning.specs.Operators.counts Rattle.meaning.specs.Operators.itemsInOrder Rattle.meaning.specs.Operators.truths Rattle.meaning.specs.Operators.once Rattle.meaning.specs.Operators.steps Rattle.meaning.specs.Operators.rooted Rattle.meaning.specs.Operators.make Rattle.meaning.specs.Run.run Rattle.meaning.specs.Run.cells Rattle.meaning.specs.Run.running Rattle.meaning.specs.Translation.next Rattle.meaning.specs.Translation.hold Rattle.meaning.specs.Translation.freeIn Rattle.meaning.specs.Translation.othersIn Rattle.meaning.specs.Translation.lifts Rattle.meaning.specs.Translation.lifted Rattle.meaning.specs.Translation.ruleL Rattle.meaning.specs.Translation.ruleR Rattle.meaning.specs.Translation.ruleE Rattle.meaning.specs.Translation.tailS Rattle.meaning.specs.Translation.headF Rattle.meaning.specs.Translation.tailF Rattle.meaning.specs.Translation.headI Rattle.meaning.specs.Translation.tailO Rattle.meaning.specs.Translation.tailC Rattle.meaning.specs.Translation.tailD Rattle.meaning.specs.Translation.tailX Rattle.meaning.specs.Translation.then Rattle.meaning.specs.Translation.tr Rattle.meaning.specs.Translation.tailLast Rattle.meaning.specs.Translation.plan Rattle.meaning.specs.Written.functionNumber Rattle.meaning.specs.Written.axisNumber Rattle.meaning.specs.Written.testNumber Rattle.meaning.specs.Written.testName Rattle.meaning.specs.Written.operatorBytes Rattle.meaning.specs.Written.written Rattle.meaning.specs.Calls.padded Rattle.meaning.specs.Calls.refusal Rattle.meaning.specs.Calls.room Rattle.meaning.specs.Calls.catalogueAnswer Rattle.meaning.specs.Calls.catalogueCall Rattle.meaning.specs.Calls.queryAnswer Rattle.meaning.specs.Calls.queryCall Rattle.meaning.specs.Calls.planOf Rattle.meaning.specs.Calls.translateOutcome Rattle.meaning.specs.Calls.translateCall Rattle.meaning.specs.Calls.lastTable Rattle.meaning.specs.Calls.flat Rattle.meaning.specs.Calls.runOutcome Rattle.meaning.specs.Calls.runCall Rattle.meaning.specs.Calls.evaluateOutcome Rattle.meaning.specs.Calls.evaluateCall
-t2 = refl
+boolean : ℕ → List ℕ
+boolean b = 0x51 ∷ 0x42 ∷ b ∷ []
 
-t3 : Calls.runCall (Calls.translateCall ql10 41 .left) [] 14 ≡ record { answer = Calls.gives (10 ∷ 1 ∷ 13 ∷ []); left = pos 1 ∷ pos 1 ∷ pos 1 ∷ pos 1 ∷ pos 1 ∷ pos 10 ∷ pos 1 ∷ pos 1 ∷ pos 10 ∷ pos 1 ∷ pos 1 ∷ pos 1 ∷ pos 10 ∷ pos 0 ∷ [] }
-unfolding ql10 Rattle.laws.specs.Lists.filter Rattle.laws.specs.Lists.any Rattle.laws.specs.Lists.all Rattle.laws.specs.Lists.count Rattle.laws.specs.Lists.firsts Rattle.laws.specs.Lists.gather Rattle.laws.specs.Lists.below Rattle.laws.specs.Lists.sum Rattle.laws.specs.Sorting.insert Rattle.laws.specs.Sorting.sort Rattle.cells.specs.Cell.cellOf Rattle.cells.specs.Cell.inRange Rattle.cells.specs.Cell.same Rattle.cells.specs.Cell.before Rattle.cells.specs.Cell.held Rattle.cells.specs.Bytes.word Rattle.cells.specs.Bytes.signed Rattle.cells.specs.Bytes.int4 Rattle.cells.specs.Bytes.int8 Rattle.cells.specs.Bytes.fits Rattle.cells.specs.Bytes.bytesOf Rattle.cells.specs.Bytes.bits8 Rattle.meaning.specs.Attempt.attempt Rattle.meaning.specs.Attempt.reading Rattle.meaning.specs.Attempt.work Rattle.meaning.specs.Attempt.provided Rattle.meaning.specs.Attempt.unless Rattle.meaning.specs.Attempt.refusing Rattle.meaning.specs.Attempt.trying Rattle.meaning.specs.Attempt.within Rattle.meaning.specs.Attempt.each Rattle.meaning.specs.Catalogue.catalogueOf Rattle.meaning.specs.Catalogue.isName Rattle.meaning.specs.Catalogue.ownSound Rattle.meaning.specs.Catalogue.rowSound Rattle.meaning.specs.Catalogue.rowsSound Rattle.meaning.specs.Catalogue.deeper Rattle.meaning.specs.Catalogue.sizesExact Rattle.meaning.specs.Catalogue.catalogueRead Rattle.meaning.specs.World.integerIn Rattle.meaning.specs.World.integerOf Rattle.meaning.specs.World.ranged Rattle.meaning.specs.World.quotient Rattle.meaning.specs.World.function Rattle.meaning.specs.World.arith Rattle.meaning.specs.World.valueIn Rattle.meaning.specs.World.value Rattle.meaning.specs.World.truthFrom Rattle.meaning.specs.World.truth Rattle.meaning.specs.World.fragment Rattle.meaning.specs.World.isDescendant Rattle.meaning.specs.World.isChild Rattle.meaning.specs.World.axisHolds Rattle.meaning.specs.World.onAxis Rattle.meaning.specs.World.passes Rattle.meaning.specs.World.rankIn Rattle.meaning.specs.World.rankOf Rattle.meaning.specs.World.ranksOf Rattle.meaning.specs.World.reached Rattle.meaning.specs.World.step Rattle.meaning.specs.World.roots Rattle.meaning.specs.World.member Rattle.meaning.specs.World.rootOf Rattle.meaning.specs.World.worldOf Rattle.meaning.specs.Query.functionOf Rattle.meaning.specs.Query.axisOf Rattle.meaning.specs.Query.testOf Rattle.meaning.specs.Query.variableOf Rattle.meaning.specs.Query.fragmentOf Rattle.meaning.specs.Query.booleanOf Rattle.meaning.specs.Query.sized Rattle.meaning.specs.Query.recordOf Rattle.meaning.specs.Query.recordAt Rattle.meaning.specs.Query.bound Rattle.meaning.specs.Query.leaf Rattle.meaning.specs.Query.one Rattle.meaning.specs.Query.two Rattle.meaning.specs.Query.three Rattle.meaning.specs.Query.operands Rattle.meaning.specs.Query.read Rattle.meaning.specs.Query.queryRead Rattle.meaning.specs.Query.free Rattle.meaning.specs.Meaning.bind Rattle.meaning.specs.Meaning.apply Rattle.meaning.specs.Meaning.values Rattle.meaning.specs.Meaning.eval Rattle.meaning.specs.Counted.stand Rattle.meaning.specs.Counted.adding Rattle.meaning.specs.Counted.loop Rattle.meaning.specs.Counted.evaluate Rattle.meaning.specs.Plan.plainIn Rattle.meaning.specs.Plan.columnsAt Rattle.meaning.specs.Plan.sized Rattle.meaning.specs.Plan.attachAt Rattle.meaning.specs.Plan.projectAt Rattle.meaning.specs.Plan.numberAt Rattle.meaning.specs.Plan.functionAt Rattle.meaning.specs.Plan.stepAt Rattle.meaning.specs.Plan.operatorOf Rattle.meaning.specs.Plan.operatorAt Rattle.meaning.specs.Plan.tableWidth Rattle.meaning.specs.Plan.upTo6 Rattle.meaning.specs.Plan.columns Rattle.meaning.specs.Plan.widthOf Rattle.meaning.specs.Plan.placedAt Rattle.meaning.specs.Plan.lastOf Rattle.meaning.specs.Plan.ended Rattle.meaning.specs.Plan.planFrom Rattle.meaning.specs.Plan.planRead Rattle.meaning.specs.Operators.column Rattle.meaning.specs.Operators.sameRow Rattle.meaning.specs.Operators.attach Rattle.meaning.specs.Operators.project Rattle.meaning.specs.Operators.minus Rattle.meaning.specs.Operators.select Rattle.meaning.specs.Operators.join Rattle.meaning.specs.Operators.rising Rattle.meaning.specs.Operators.numberedAfter Rattle.meaning.specs.Operators.inGroup Rattle.meaning.specs.Operators.number Rattle.meaning.specs.Operators.added Rattle.meaning.specs.Operators.groups Rattle.meaning.specs.Operators.groupOf Rattle.meaning.specs.Operators.counts Rattle.meaning.specs.Operators.itemsInOrder Rattle.meaning.specs.Operators.truths Rattle.meaning.specs.Operators.once Rattle.meaning.specs.Operators.steps Rattle.meaning.specs.Operators.rooted Rattle.meaning.specs.Operators.make Rattle.meaning.specs.Run.run Rattle.meaning.specs.Run.cells Rattle.meaning.specs.Run.running Rattle.meaning.specs.Translation.next Rattle.meaning.specs.Translation.hold Rattle.meaning.specs.Translation.freeIn Rattle.meaning.specs.Translation.othersIn Rattle.meaning.specs.Translation.lifts Rattle.meaning.specs.Translation.lifted Rattle.meaning.specs.Translation.ruleL Rattle.meaning.specs.Translation.ruleR Rattle.meaning.specs.Translation.ruleE Rattle.meaning.specs.Translation.tailS Rattle.meaning.specs.Translation.headF Rattle.meaning.specs.Translation.tailF Rattle.meaning.specs.Translation.headI Rattle.meaning.specs.Translation.tailO Rattle.meaning.specs.Translation.tailC Rattle.meaning.specs.Translation.tailD Rattle.meaning.specs.Translation.tailX Rattle.meaning.specs.Translation.then Rattle.meaning.specs.Translation.tr Rattle.meaning.specs.Translation.tailLast Rattle.meaning.specs.Translation.plan Rattle.meaning.specs.Written.functionNumber Rattle.meaning.specs.Written.axisNumber Rattle.meaning.specs.Written.testNumber Rattle.meaning.specs.Written.testName Rattle.meaning.specs.Written.operatorBytes Rattle.meaning.specs.Written.written Rattle.meaning.specs.Calls.padded Rattle.meaning.specs.Calls.refusal Rattle.meaning.specs.Calls.room Rattle.meaning.specs.Calls.catalogueAnswer Rattle.meaning.specs.Calls.catalogueCall Rattle.meaning.specs.Calls.queryAnswer Rattle.meaning.specs.Calls.queryCall Rattle.meaning.specs.Calls.planOf Rattle.meaning.specs.Calls.translateOutcome Rattle.meaning.specs.Calls.translateCall Rattle.meaning.specs.Calls.lastTable Rattle.meaning.specs.Calls.flat Rattle.meaning.specs.Calls.runOutcome Rattle.meaning.specs.Calls.runCall Rattle.meaning.specs.Calls.evaluateOutcome Rattle.meaning.specs.Calls.evaluateCall
-t3 = refl
+empty : List ℕ
+empty = 0x51 ∷ 0x45 ∷ []
+
+root : ℕ → List ℕ
+root k = 0x51 ∷ 0x52 ∷ k ∷ []
+
+variable : ℕ → List ℕ
+variable v = 0x51 ∷ 0x56 ∷ v ∷ []
+
+sequence : List ℕ → List ℕ → List ℕ
+sequence a b = 0x51 ∷ 0x53 ∷ (a ++ b)
+
+letting : ℕ → List ℕ → List ℕ → List ℕ
+letting v a b = 0x51 ∷ 0x54 ∷ v ∷ (a ++ b)
+
+for : ℕ → List ℕ → List ℕ → List ℕ
+for v a b = 0x51 ∷ 0x46 ∷ v ∷ (a ++ b)
+
+choice : List ℕ → List ℕ → List ℕ → List ℕ
+choice c a b = 0x51 ∷ 0x49 ∷ (c ++ a ++ b)
+
+function : ℕ → List ℕ → List ℕ → List ℕ
+function f a b = 0x51 ∷ 0x4F ∷ f ∷ (a ++ b)
+
+counting : List ℕ → List ℕ
+counting a = 0x51 ∷ 0x43 ∷ a
+
+step : ℕ → ℕ → ℕ → List ℕ → List ℕ
+step axis test name a = 0x51 ∷ 0x58 ∷ axis ∷ test ∷ (Bytes.bytesOf 2 name ++ a)
+
+-- Catalogues
+
+row : ℕ → ℕ → ℕ → ℕ → List ℕ
+row size level kind prop = 0x44 ∷ 0x4E ∷ (Bytes.bytesOf 2 size ++ level ∷ kind ∷ Bytes.bytesOf 4 prop)
+
+-- two one-row fragments
+twoRoots : List ℕ
+twoRoots = row 0 0 1 1 ++ row 0 0 1 2
+
+-- the catalogue of chartask's example
+harbours : List ℕ
+harbours =
+    row 6 0 1 1 ++ row 4 1 1 2 ++ row 1 2 1 3 ++ row 0 3 3 5350 ++ row 1 2 1 4 ++ row 0 3 3 995 ++ row 0 1 1 2
+
+-- Questions
+
+data Ask : Type 0 where
+  itemsOf : (query doc : List ℕ) → Ask
+  planOf : (query : List ℕ) → Ask
+  runOf : (query doc : List ℕ) (lent : ℕ) → Ask
+  workOf : (query doc : List ℕ) (lent : ℕ) → Ask
+
+data Told : Type 0 where
+  items : List ℤ → Told
+  numbers : List ℕ → Told
+  refusal : ℕ → Told
+
+-- every third cell from column 2 on: the item column of a table of width 3
+itemColumn : ℕ → List ℤ → List ℤ
+itemColumn zero xs = []
+itemColumn (suc n) xs = getD xs 2 (pos 0) ∷ itemColumn n (drop 3 xs)
+
+evaluated : Calls.Outcome ℤ → Told
+evaluated o = of (o .answer)
+  where
+    of : Calls.Answer → Told
+    of (Calls.gives ns) = items (take (getD ns 0 0) (o .left))
+    of (Calls.refused n p) = refusal n
+
+ran : Calls.Outcome ℤ → Told
+ran o = of (o .answer)
+  where
+    of : Calls.Answer → Told
+    of (Calls.gives ns) = items (itemColumn (getD ns 1 0) (drop (getD ns 0 0) (o .left)))
+    of (Calls.refused n p) = refusal n
+
+answered : Calls.Answer → Told
+answered (Calls.gives ns) = numbers ns
+answered (Calls.refused n p) = refusal n
+
+-- the bytes of the translated plan
+planBytes : List ℕ → List ℕ
+planBytes query = take (of (Calls.translateCall query 1000 .answer)) (Calls.translateCall query 1000 .left)
+  where
+    of : Calls.Answer → ℕ
+    of (Calls.gives ns) = getD ns 1 0
+    of (Calls.refused n p) = 0
+
+told : Ask → List Told
+unfolding evaluated ran answered planBytes itemColumn integer boolean empty root variable sequence letting for choice
+    function counting step row twoRoots harbours Lists.filter Lists.any Lists.all Lists.count Lists.firsts Lists.gather
+    Lists.below Lists.sum Sorting.insert Sorting.sort Cell.cellOf Cell.inRange Cell.same Cell.before Cell.held
+    Bytes.word Bytes.signed Bytes.int4 Bytes.int8 Bytes.fits Bytes.bytesOf Bytes.bits8 Attempt.attempt Attempt.reading
+    Attempt.work Attempt.provided Attempt.unless Attempt.refusing Attempt.trying Attempt.within Attempt.each
+    Catalogue.catalogueOf Catalogue.isName Catalogue.ownSound Catalogue.rowSound Catalogue.rowsSound Catalogue.deeper
+    Catalogue.sizesExact Catalogue.catalogueRead World.integerIn World.integerOf World.ranged World.quotient
+    World.function World.arith World.valueIn World.value World.truthFrom World.truth World.fragment World.isDescendant
+    World.isChild World.axisHolds World.onAxis World.passes World.rankIn World.rankOf World.ranksOf World.reached
+    World.step World.roots World.member World.rootOf World.worldOf Query.functionOf Query.axisOf Query.testOf
+    Query.variableOf Query.fragmentOf Query.booleanOf Query.sized Query.recordOf Query.recordAt Query.bound Query.leaf
+    Query.one Query.two Query.three Query.operands Query.read Query.queryRead Query.free Meaning.bind Meaning.apply
+    Meaning.values Meaning.eval Counted.stand Counted.adding Counted.loop Counted.evaluate Plan.plainIn Plan.columnsAt
+    Plan.sized Plan.attachAt Plan.projectAt Plan.numberAt Plan.functionAt Plan.stepAt Plan.operatorOf Plan.operatorAt
+    Plan.tableWidth Plan.upTo6 Plan.columns Plan.widthOf Plan.placedAt Plan.lastOf Plan.ended Plan.planFrom
+    Plan.planRead Operators.column Operators.sameRow Operators.attach Operators.project Operators.minus Operators.select
+    Operators.join Operators.rising Operators.numberedAfter Operators.inGroup Operators.number Operators.added
+    Operators.groups Operators.groupOf Operators.counts Operators.itemsInOrder Operators.truths Operators.once
+    Operators.steps Operators.rooted Operators.make Run.run Run.cells Run.running Translation.next Translation.hold
+    Translation.freeIn Translation.othersIn Translation.lifts Translation.lifted Translation.ruleL Translation.ruleR
+    Translation.ruleE Translation.tailS Translation.headF Translation.tailF Translation.headI Translation.tailO
+    Translation.tailC Translation.tailD Translation.tailX Translation.then Translation.tr Translation.tailLast
+    Translation.plan Written.functionNumber Written.axisNumber Written.testNumber Written.testName Written.operatorBytes
+    Written.written Calls.padded Calls.refusal Calls.room Calls.catalogueAnswer Calls.catalogueCall Calls.queryAnswer
+    Calls.queryCall Calls.planOf Calls.translateOutcome Calls.translateCall Calls.lastTable Calls.flat Calls.runOutcome
+    Calls.runCall Calls.evaluateOutcome Calls.evaluateCall
+told (itemsOf query doc) =
+    evaluated (Calls.evaluateCall query doc 200) ∷ ran (Calls.runCall (planBytes query) doc 4000) ∷ []
+told (planOf query) = answered (Calls.translateCall query 1000 .answer) ∷ []
+told (runOf query doc lent) = answered (Calls.runCall (planBytes query) doc lent .answer) ∷ []
+told (workOf query doc lent) = answered (Calls.evaluateCall query doc lent .answer) ∷ []
+
+-- both engines tell the same
+both : Told → List Told
+both t = t ∷ t ∷ []
+
+-- The table
+
+nested : List ℕ
+nested =
+    for 0 (sequence (integer (pos 1)) (integer (pos 2)))
+    (sequence (variable 0)
+    (for 1 (sequence (integer (pos 10)) (integer (pos 20))) (sequence (variable 0) (variable 1))))
+
+longitudes : List ℕ
+longitudes = for 0 (step 1 3 2 (root 1)) (counting (step 1 3 3 (variable 0)))
+
+byZero : List ℕ
+byZero = function 4 (integer (pos 1)) (integer (pos 0))
+
+examples : List (Ask × List Told)
+examples =
+    (itemsOf nested [], both (items (pos 1 ∷ pos 1 ∷ pos 10 ∷ pos 1 ∷ pos 20 ∷ pos 2 ∷ pos 2 ∷ pos 10 ∷ pos 2 ∷ pos 20 ∷ [])))
+    ∷ (itemsOf (function 4 (integer (negsuc 6)) (integer (pos 2))) [], both (items (negsuc 2 ∷ [])))
+    ∷ (itemsOf (function 4 (integer (negsuc 2147483647)) (integer (negsuc 0))) [], both (refusal 7))
+    ∷ (itemsOf (function 1 (sequence (integer (pos 1)) (integer (pos 2))) empty) [], both (refusal 7))
+    ∷ (itemsOf (function 1 (boolean 1) empty) [], both (items []))
+    ∷ (itemsOf (for 0 empty byZero) [], both (items []))
+    ∷ (itemsOf (choice (boolean 0) byZero (integer (pos 2))) [], both (items (pos 2 ∷ [])))
+    ∷ (itemsOf (letting 0 byZero (integer (pos 2))) [], both (refusal 7))
+    ∷ (itemsOf (choice empty (integer (pos 1)) (integer (pos 2))) [], both (items (pos 2 ∷ [])))
+    ∷ (itemsOf (choice (sequence (integer (pos 2)) (boolean 1)) (integer (pos 1)) (integer (pos 2))) [], both (refusal 7))
+    ∷ (planOf (integer (pos 10)), numbers (5 ∷ 41 ∷ []) ∷ [])
+    ∷ (runOf (integer (pos 10)) [] 13, numbers (10 ∷ 1 ∷ 13 ∷ []) ∷ [])
+    ∷ (runOf (integer (pos 10)) [] 12, refusal 6 ∷ [])
+    ∷ (itemsOf (step 7 0 0 (root 1)) twoRoots, both (items []))
+    ∷ (itemsOf longitudes harbours, both (items (pos 1 ∷ pos 0 ∷ [])))
+    ∷ (planOf longitudes, numbers (28 ∷ 214 ∷ []) ∷ [])
+    ∷ (runOf longitudes harbours 130, numbers (124 ∷ 2 ∷ 130 ∷ []) ∷ [])
+    -- beside the marked ones: all of a's items stand before b's, however many there are
+    ∷ (itemsOf (sequence (sequence (integer (pos 1)) (integer (pos 2))) (integer (pos 3))) [], both (items (pos 1 ∷ pos 2 ∷ pos 3 ∷ [])))
+    ∷ (workOf longitudes harbours 4, numbers (2 ∷ 4 ∷ []) ∷ [])
+    ∷ (workOf longitudes harbours 3, refusal 6 ∷ [])
+    ∷ []
+
+marked : map (λ (e : Ask × List Told). told (e .0)) examples ≡ map (λ (e : Ask × List Told). e .1) examples
+unfolding told examples nested longitudes byZero both
+marked = refl
