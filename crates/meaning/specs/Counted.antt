@@ -1,6 +1,7 @@
 -- The evaluation with its count and its places (document 01, 'Room'). The count is the most items standing at once.
 --     Standing                items and the count of what stood while they were worked out
---     standing room at xs k   items xs with count k, or refusal 6 at the record where they pass the room
+--     stand xs k              items xs with count k
+--     adding room at n xs     items xs added where n stand, or refusal 6 at the record where that passes the room
 --     loop ..                 the turns of a `for`, results so far in front
 --     evaluate w room e q     the items and count of a query, or 6 or 7 at the record at work
 -- The room passed down to an operand is what the items below it leave.

@@ -1,8 +1,8 @@
 -- What a query means (document 01, 'Query records'), with nothing about room: the page to teach from.
 --     Env                 what each variable holds
 --     bind v xs e         the same, with xs in variable v: an inner binding hides an outer one
---     single xs ys        both sides of a function have at most one item
 --     apply w f xs ys     a function of two worked-out sides
+--     values w xs         each item's value, in order
 --     eval w e q          the items of a query, or that it fails
 use Prim.Native.Nat.{ℕ, _+_}
 use mathlib.Core.List.{List, [], _∷_, _++_}

@@ -1,17 +1,15 @@
 -- Tables laid end to end in lent cells (document 01, 'Room'), and the one promise of every operator.
---     row xs a w           the w cells from a on
---     rowsAt xs a n w      the n rows of width w from cell a on
---     laid xs at vs        xs with vs written over it at cell `at`
 --     tableAt xs s         the table that stands where s says
 --     Inside top s         it stands whole below cell `top`
+--     Wide w t             every row of t has width w
 --     Owes ..              what an operator answers and leaves, where `made` is what its definition makes: its rows laid exactly
 --                          at `at`; or that they pass the room; or that it fails
-use Prim.Native.Nat.{ℕ, zero, suc, _+_, _*_, _≤_, _<_}
+use Prim.Native.Nat.{ℕ, _+_, _*_, _≤_, _<_}
 use mathlib.Core.Path.{_≡_}
-use mathlib.Core.List.{List, [], _∷_, _++_}
+use mathlib.Core.List.{List, [], _∷_}
 use lib.IntN.{ℤ}
-use lib.ListN.{length, take, drop}
-use Rattle.laws.specs.Lists.{gather}
+use lib.ListN.{length}
+use Rattle.laws.specs.Rows.{rowsAt, laid}
 use Rattle.meaning.specs.Attempt.{Attempt, fails, gives}
 use Rattle.meaning.specs.Operators.{Row, Table}
 use Rattle.meaning.specs.Calls.{flat}
@@ -19,28 +17,23 @@ use Rattle.tables.specs.declared.Stand.{Stand}
 use Rattle.tables.specs.declared.Laid.{Laid}
 use Rattle.tables.specs.declared.Laid.the-variants.{Rows, Full, Fails}
 
-module _ {A : Type 0} where
-  unfoldable pub row : List A → ℕ → ℕ → List A
-  row xs a w = take w (drop a xs)
-
-  unfoldable pub rowsAt : List A → ℕ → ℕ → ℕ → List (List A)
-  rowsAt xs a zero w = []
-  rowsAt xs a (suc n) w = row xs a w ∷ rowsAt xs (a + w) n w
-
-  unfoldable pub laid : List A → ℕ → List A → List A
-  laid xs at vs = take at xs ++ (vs ++ drop (at + length vs) xs)
-
 unfoldable pub tableAt : List ℤ → Stand → Table
 tableAt xs s = rowsAt xs (s .at) (s .rows) (s .width)
 
 unfoldable pub Inside : ℕ → Stand → Type 0
 Inside top s = s .at + s .rows * s .width ≤ top
 
+-- every row of a table has width w
+unfoldable pub Wide : ℕ → Table → Type 0
+Wide w [] = Unit {0}
+Wide w (r ∷ t) = (length r ≡ w) × Wide w t
+
 -- the rows of a table that was made: as many as answered, within the room, laid exactly
 pub record Written (room at w n : ℕ) (made : Attempt Table) (entry exit : List ℤ) : Type 0 where
   pub table : Table
   pub made-is : made ≡ gives table
-  pub rows-is : length table ≡ n
+  pub rows-are : length table ≡ n
+  pub wide : Wide w table
   pub fits : at + n * w ≤ room
   pub cells-are : exit ≡ laid entry at (flat table)
 

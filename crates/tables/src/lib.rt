@@ -1,4 +1,7 @@
 // The operators over tables laid end to end in lent cells.
+mod rows;
+
+use cells::Function;
 
 // Where a table stands: its first cell, its rows and its width.
 pub struct Stand {
@@ -12,4 +15,16 @@ pub enum Laid {
     Rows(usize),
     Full,
     Fails,
+}
+
+// What a row-wise operator does with each row. The columns of Project stand in the plan's bytes: how many, and from where on.
+pub enum Task {
+    Keep,
+    Attach(i64),
+    Project(usize, usize),
+    Minus(Stand),
+    Select(usize),
+    Join(usize, Stand, usize),
+    Apply(Function, usize, usize),
+    Value(usize),
 }

@@ -1,0 +1,96 @@
+use Prim.Native.Nat.{ℕ, suc, _+_, _-_, _≤_, _<_}
+use mathlib.Core.Path.{_≡_, refl, sym, ap, _∙_}
+use mathlib.Core.List.{List, [], _∷_, _++_}
+use native.Mathlib.Omega.{arith}
+use native.Mathlib.Numerals.{add-one}
+use lib.IntN.{ℤ, pos}
+use lib.ListN.{length, getD, set, length-set}
+use mir.Facts.{toZ-ofZ}
+use borrow.Author.Needs.{needs}
+use Rattle.laws.specs.Rows.{row, laid}
+use Rattle.laws.proofs.Rows.{laid-nothing, copied-more}
+use Rattle.tables.proofs.rows.copy.Statement.{statement}
+use Rattle.tables.proofs.rows.copy.Tie as tie
+use Rattle.tables.proofs.rows.copy.Reads as reads
+use Rattle.tables.proofs.rows.copy.Lts as lts
+
+abbrev Inv-loop : tie.InvT-loop
+Inv-loop work₀ from n to i₀ work i =
+    (i ≤ n) × (work ≡ laid work₀ to (row work₀ from i)) × (length work ≡ length work₀)
+
+abbrev μ-loop : tie.MeasureT-loop
+μ-loop work₀ from n to i₀ work i = n - i
+
+-- src/rows.rt:13:5
+loop-holds : tie.Need-loop-holds Inv-loop μ-loop
+unfolding row
+loop-holds c = (omega arith, sym (laid-nothing _ _), refl)
+
+-- src/rows.rt:14:29
+add-work : tie.Need-add-work Inv-loop μ-loop
+add-work c = search needs
+
+-- src/rows.rt:14:24
+mul-work : tie.Need-mul-work Inv-loop μ-loop
+mul-work c = search needs
+
+-- src/rows.rt:14:24
+slice-copy-out-work : tie.Need-slice-copy-out-work Inv-loop μ-loop
+slice-copy-out-work c = search needs
+
+-- src/rows.rt:14:14
+add-t11 : tie.Need-add-t11 Inv-loop μ-loop
+add-t11 c = search needs
+
+-- src/rows.rt:14:9
+mul-t12 : tie.Need-mul-t12 Inv-loop μ-loop
+mul-t12 c = search needs
+
+-- src/rows.rt:14:9
+slice-set-from-work : tie.Need-slice-set-from-work Inv-loop μ-loop
+slice-set-from-work c = search needs
+
+-- src/rows.rt:15:9
+add-i : tie.Need-add-i Inv-loop μ-loop
+add-i c = search needs
+
+-- src/rows.rt:13:5
+loop-less : tie.Need-loop-less Inv-loop μ-loop
+loop-less c = search needs
+
+-- src/rows.rt:13:5
+loop-again : tie.Need-loop-again Inv-loop μ-loop
+loop-again c = (
+  omega arith,
+  copied-more _ _ _ _ _ (pos 0) _ (c .before .before .loop .inv .1) (omega arith) (omega arith) (toZ-ofZ (record { sfits = c .work .given })),
+  simp length-set (c .before .before .loop .inv .2),
+)
+
+-- src/rows.rt:8:1
+same-length : tie.Need-same-length Inv-loop μ-loop
+same-length c = c .before .loop .inv .2
+
+-- src/rows.rt:8:1
+returns : tie.Need-returns Inv-loop μ-loop
+returns c =
+    let e : c .before .loop .i ≡ c .before .before .args .n = omega arith in
+    rw e at (c .before .loop .inv .1)
+
+pub copy-spec : {M : Type 1} → statement M
+copy-spec =
+    tie.close
+    (tie.spec
+    Inv-loop
+    μ-loop
+    loop-holds
+    add-work
+    mul-work
+    slice-copy-out-work
+    add-t11
+    mul-t12
+    slice-set-from-work
+    add-i
+    loop-less
+    loop-again
+    same-length
+    returns)

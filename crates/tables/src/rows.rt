@@ -1,0 +1,46 @@
+// Single rows: copying one, and what each row-wise operator does with one.
+ghost use mathlib.Core.Path.{_≡_};
+ghost use mathlib.Core.List.{[], _∷_, _++_};
+ghost use Prim.Native.Nat.{_+_, _≤_};
+ghost use lib.ListN.{length};
+ghost use Rattle.laws.specs.Rows.{row, laid};
+ghost use Rattle.meaning.specs.Attempt.{gives};
+ghost use Rattle.tables.specs.Layout.{Owes};
+use crate::Laid;
+
+// Copies n cells that stand below `to` to there.
+pub fn copy(work: &mut [i64], from: usize, n: usize, to: usize)
+    requires { ⌜ (from + n ≤ to) × (to + n ≤ length (now work)) ⌝ }
+    ensures { λ r. ⌜ now (work .exit) ≡ laid (now (work .entry)) to (row (now (work .entry)) from n) ⌝ }
+{
+    let mut i: usize = 0;
+    while i < n {
+        work[to + i] = work[from + i];
+        i += 1;
+    }
+}
+
+// The row of width w at cell a, once more.
+pub fn keep(work: &mut [i64], a: usize, w: usize, at: usize, room: usize) -> Laid
+    requires { ⌜ (a + w ≤ at) × (at ≤ room) × (room ≤ length (now work)) ⌝ }
+    ensures { λ r. ⌜ Owes room at w (gives (row (now (work .entry)) a w ∷ [])) (now (work .entry)) (now (work .exit)) r ⌝ }
+{
+    if room - at < w {
+        return Laid::Full;
+    }
+    copy(work, a, w, at);
+    Laid::Rows(1)
+}
+
+// The row with one cell more.
+pub fn attach(work: &mut [i64], a: usize, w: usize, cell: i64, at: usize, room: usize) -> Laid
+    requires { ⌜ (a + w ≤ at) × (at ≤ room) × (room ≤ length (now work)) ⌝ }
+    ensures { λ r. ⌜ Owes room at (w + 1) (gives ((row (now (work .entry)) a w ++ (cell ∷ [])) ∷ [])) (now (work .entry)) (now (work .exit)) r ⌝ }
+{
+    if room - at <= w {
+        return Laid::Full;
+    }
+    copy(work, a, w, at);
+    work[at + w] = cell;
+    Laid::Rows(1)
+}
