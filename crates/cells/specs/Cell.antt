@@ -7,11 +7,10 @@
 --     held z                 the item that a cell holds, or that it is no item's cell
 --     same a b, before a b   equality and order of cells, as signed 64-bit numbers
 use Prim.Native.Nat.{ℕ, _+_, _-_}
-use mathlib.Core.Bool.{Bool, true, false, cond, _||_, _&&_}
+use mathlib.Core.Bool.{Bool, true, false, cond}
 use lib.Dec.{ltb, leb, eqb}
 use lib.IntN.{ℤ, pos, negsuc}
 use lib.Signed.{ltZ}
-use Rattle.cells.specs.declared.Rank.{Rank}
 use Rattle.cells.specs.declared.Item.{Item}
 use Rattle.cells.specs.declared.Item.the-variants.{Integer, Truth, Node}
 use Rattle.cells.specs.declared.Held.{Held}

@@ -1,2 +1,4 @@
 pub mod Cell
 pub mod Bytes
+pub mod Small
+pub mod Arithmetic

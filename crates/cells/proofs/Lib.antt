@@ -1,0 +1,6 @@
+pub mod Tests
+pub mod Bits
+pub mod Holding
+pub mod Cells
+pub mod Bytes
+pub mod Arithmetic
