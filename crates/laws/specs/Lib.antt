@@ -1,3 +1,4 @@
 pub mod Lists
 pub mod Sorting
 pub mod Rows
+pub mod Keyed

@@ -1,0 +1,17 @@
+pub mod Attempts
+pub mod Keys
+pub mod Tables
+pub mod Agreeing
+pub mod Leaves
+pub mod Sequences
+pub mod Counts
+pub mod Values
+pub mod Functions
+pub mod PerIteration
+pub mod Steps
+pub mod Choices
+pub mod NewLoops
+pub mod BringingBack
+pub mod ForLoops
+pub mod Theorem
+pub mod Whole
