@@ -15,3 +15,12 @@ pub mod BringingBack
 pub mod ForLoops
 pub mod Theorem
 pub mod Whole
+pub mod EncodedLists
+pub mod Encoded
+pub mod Machine
+pub mod MachineOperators
+pub mod MachineRules
+pub mod MachineLifts
+pub mod MachineLoops
+pub mod MachineQueries
+pub mod MachineAgreement

@@ -1,2 +1,4 @@
 pub mod Typed
 pub mod Families
+pub mod Encoded
+pub mod Machine

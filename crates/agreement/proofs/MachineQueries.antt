@@ -1,0 +1,136 @@
+-- The operators of a query simulate the typed rules, and the whole plan does.
+--     simulates            the operators of a closed query
+--     run-gives, run-fails   .. where the typed rules give a table; where they fail
+--     plan-gives, plan-fails     the whole plan against the typed plan
+use Prim.Native.Nat.{ℕ, zero, suc, _+_}
+use mathlib.Core.Path.{_≡_, refl, _∙_}
+use mathlib.Core.List.{List, [], _∷_}
+use mathlib.Core.Bool.{Bool, true, not, _&&_, _||_, false≢true}
+use native.Mathlib.Omega.{arith}
+use borrow.Author.Tests.{eq-eqb}
+use lib.Dec.{eqb}
+use lib.ListN.{length, getD, length-append}
+use Rattle.laws.specs.Lists.{any}
+use Rattle.laws.proofs.Filters.{by-cases}
+use Rattle.meaning.specs.Attempt.{fails, gives}
+use Rattle.meaning.specs.World.{World}
+use Rattle.meaning.specs.Query.{Query, QL, QE, QR, QV, QS, QT, QF, QI, QO, QC, QD, QX, free, bound}
+use Rattle.meaning.specs.Operators.{Table, make}
+use Rattle.meaning.specs.Run.{run}
+use Rattle.meaning.specs.Calls.{lastTable}
+use Rattle.meaning.specs.Translation.{Tables, next, hold, then, tr, tailLast, plan}
+use Rattle.meaning.proofs.Closed.{Closed, free-bound}
+use Rattle.agreement.specs.Typed.{Triple, Loop, Vars, holding, sem, semPlan}
+use Rattle.agreement.specs.Encoded.{encodeNumber, HasRows, HasLoop}
+use Rattle.agreement.specs.Machine.{Ran, Simulates, HasFree, Faithful, Ends}
+use Rattle.agreement.proofs.EncodedLists.{or-left, or-right}
+use Rattle.agreement.proofs.Machine.{has-kept, sim-end, sim-then, sim-op}
+use Rattle.agreement.proofs.MachineRules.{sim-L, sim-E, sim-R, sim-S, sim-O, sim-C, sim-D, sim-X, sim-last}
+use Rattle.agreement.proofs.MachineLoops.{Small, sim-F, sim-I}
+
+-- the free variables of a part
+module _ {ts : List Table} {e : Tables} {vars : Vars} where
+  free-left : (p q : ℕ → Bool) → ((v : ℕ) → p v || q v ≡ true → HasRows ts (e v) (vars v))
+      → (v : ℕ) → p v ≡ true → HasRows ts (e v) (vars v)
+  free-left p q h v f = h v (or-left (p v) (q v) f)
+
+  free-right : (p q : ℕ → Bool) → ((v : ℕ) → p v || q v ≡ true → HasRows ts (e v) (vars v))
+      → (v : ℕ) → q v ≡ true → HasRows ts (e v) (vars v)
+  free-right p q h v f = h v (or-right (p v) (q v) f)
+
+-- with one more variable bound
+free-bind : (ts : List Table) (e : Tables) (vars : Vars) (q : Query) (v t : ℕ) (x : List Triple) → HasRows ts t x
+    → ((u : ℕ) → not (eqb u v) && free u q ≡ true → HasRows ts (e u) (vars u))
+    → HasFree ts q (hold v t e) (holding v x vars)
+unfolding hold holding
+free-bind ts e vars q v t x h i u f = by-cases (eqb u v) (λ k. rw k h) (λ k. rw k (i u (rw (k, f))))
+
+small : (q : Query) (vs : List ℕ) → Closed q vs → Small q
+small q vs c v f = free-bound q vs v c f .1
+
+pub simulates : (w : World) (q : Query) (vs : List ℕ) → Closed q vs → Faithful w q
+unfolding tr then next sem free
+simulates w (QL at z) vs c n l e ts loop vars here h f = sim-L w n here z h
+simulates w (QE at) vs c n l e ts loop vars here h f = sim-E w n here h
+simulates w (QR at k) vs c n l e ts loop vars here h f = sim-R w n here k h
+simulates w (QV at v) vs c n l e ts loop vars here h f = sim-end w (f v (eq-eqb v v refl))
+simulates w (QS at a b) vs c n l e ts loop vars here h f =
+    sim-then w here (simulates w a vs (c .0) n l e ts loop vars here h (free-left _ _ f)) (λ x us p k i.
+    sim-then w k
+    (simulates w b vs (c .1) _ l e us loop vars k (has-kept p h)
+    (λ v g. has-kept p (free-right (λ u. free u a) _ f v g)))
+    (λ y us q k j. sim-S w _ k (has-kept q i) j))
+simulates w (QT at v a b) vs c n l e ts loop vars here h f =
+    sim-then w here (simulates w a vs (c .1) n l e ts loop vars here h (free-left _ _ f)) (λ x us p k i.
+    simulates w b (v ∷ vs) (c .2) _ l (hold v _ e) us loop (holding v x vars) k (has-kept p h)
+    (free-bind us e vars b v _ x i (λ u g. has-kept p (free-right (λ u. free u a) _ f u g))))
+simulates w (QF at v a b) vs c n l e ts loop vars here h f =
+    sim-then w here (simulates w a vs (c .1) n l e ts loop vars here h (free-left _ _ f)) (λ x us p k i.
+    sim-F w _ k v b e vars (simulates w b (v ∷ vs) (c .2)) (small b (v ∷ vs) (c .2)) i
+    (λ u g. has-kept p (free-right (λ u. free u a) _ f u g)))
+simulates w (QI at q a b) vs c n l e ts loop vars here h f =
+    let g = free-left (λ v. free v q || free v a) (λ v. free v b) f in
+    sim-then w here (simulates w q vs (c .0) n l e ts loop vars here h (free-left _ (λ v. free v a) g)) (λ x us p k i.
+    sim-I w _ k a b e vars (simulates w a vs (c .1)) (simulates w b vs (c .2)) (small a vs (c .1)) (small b vs (c .2))
+    (has-kept p h) i (λ u t. has-kept p (free-right (λ v. free v q) _ g u t))
+    (λ u t. has-kept p (free-right (λ v. free v q || free v a) _ f u t)))
+simulates w (QO at g a b) vs c n l e ts loop vars here h f =
+    sim-then w here (simulates w a vs (c .0) n l e ts loop vars here h (free-left _ _ f)) (λ x us p k i.
+    sim-then w k
+    (simulates w b vs (c .1) _ l e us loop vars k (has-kept p h)
+    (λ v g. has-kept p (free-right (λ u. free u a) _ f v g)))
+    (λ y us q k j. sim-O w _ k g (has-kept q i) j))
+simulates w (QC at a) vs c n l e ts loop vars here h f =
+    sim-then w here (simulates w a vs c n l e ts loop vars here h f) (λ x us p k i. sim-C w _ k (has-kept p h) i)
+simulates w (QD at a) vs c n l e ts loop vars here h f =
+    sim-then w here (simulates w a vs c n l e ts loop vars here h f) (λ x us p k i. sim-D w _ k i)
+simulates w (QX at axis test a) vs c n l e ts loop vars here h f =
+    sim-then w here (simulates w a vs c n l e ts loop vars here h f) (λ x us p k i. sim-X w _ k axis test i)
+
+-- the same in two parts
+module _ (w : World) (q : Query) (vs : List ℕ) (closed : Closed q vs) (n l : ℕ) (e : Tables) (ts : List Table)
+    (loop : Loop) (vars : Vars) (here : length ts ≡ n) (h : HasLoop ts l loop) (f : HasFree ts q e vars) where
+  pub run-gives : (t : List Triple) → sem w q loop vars ≡ gives t → Ran w (tr q n l e .ops) (tr q n l e .result) ts t
+  run-gives = simulates w q vs closed n l e ts loop vars here h f .gave
+
+  pub run-fails : sem w q loop vars ≡ fails → run w (tr q n l e .ops) ts ≡ fails
+  run-fails = simulates w q vs closed n l e ts loop vars here h f .failed
+
+-- The whole plan
+
+last-table : (ts : List Table) (n : ℕ) → length ts ≡ suc n → lastTable ts ≡ getD ts n []
+unfolding lastTable
+last-table [] n e = absurd (omega arith)
+last-table (t ∷ []) zero e = refl
+last-table (t ∷ []) (suc n) e = absurd (omega arith)
+last-table (t ∷ u ∷ ts) zero e = absurd (omega arith)
+last-table (t ∷ u ∷ ts) (suc n) e = last-table (u ∷ ts) n (omega arith)
+
+resultOf : Query → ℕ
+resultOf q = next 1 (tr q 1 0 (λ v. 0)) + 1
+
+plan-simulates : (w : World) (q : Query) → Closed q [] → Simulates w (plan q) (resultOf q) [] (semPlan w q)
+unfolding plan resultOf semPlan next make bound any
+plan-simulates w q c =
+    sim-op w {f = encodeNumber} {n = 0} {rows = 1 ∷ []} refl refl (λ us p k j.
+    sim-then w k
+    (simulates w q [] c 1 0 (λ v. 0) us (1 ∷ []) (λ v. []) k j
+    (λ v f. absurd (false≢true (free-bound q [] v c f .0))))
+    (λ t us p k j. sim-last w _ k j))
+
+plan-length : (q : Query) → length (plan q) ≡ suc (resultOf q)
+unfolding plan resultOf next tailLast
+plan-length q = let x = tr q 1 0 (λ v. 0) in omega (arith, length-append (x .ops) (tailLast (next 1 x) (x .result)))
+
+module _ (w : World) (q : Query) (closed : Closed q []) where
+  pub plan-gives : (t : List Triple) → semPlan w q ≡ gives t → Ends w q t
+  plan-gives t e =
+      let r = plan-simulates w q closed .gave t e in
+      record {
+        tables = r .made;
+        runs = r .runs;
+        last = last-table (r .made) (resultOf q) (r .long ∙ plan-length q) ∙ r .has .holds;
+      }
+
+  pub plan-fails : semPlan w q ≡ fails → run w (plan q) [] ≡ fails
+  plan-fails e = plan-simulates w q closed .failed e
