@@ -1,0 +1,215 @@
+-- The definitions, turn by turn, as this crate's loops go through the rows: of n rows the one of rank r is at hand.
+--     own-deep, own-far, own-kind                 a row's own fields
+--     row-cut, row-mark, row-own                  a row
+--     turn-end, turn-over, turn-bad, turn-on      the row checks
+--     count-end, count-stop, count-on             the rows that are deeper
+--     exact-end, exact-bad, exact-on              the sizes
+--     root-start, root-end, root-skip, root-here, root-next   the roots
+--     fragment-first, fragment-found, fragment-back           the fragment
+--     check-bad, check-on, check-rows             the whole check, by what the row checks found
+use Prim.Native.Nat.{ℕ, zero, suc, _+_, _*_, _-_, _≤_, _<_}
+use native.Mathlib.Numerals.{add-one}
+use native.Mathlib.Omega.{arith}
+use mathlib.Core.Bool.{true, false}
+use mathlib.Core.List.{List}
+use mathlib.Core.Path.{_≡_, sym, _∙_, ap}
+use lib.Dec.{eqb}
+use lib.IntN.{ℤ}
+use lib.ListN.{length}
+use borrow.Author.Tests.{le-leb, lt-leb, eq-eqb, ne-eqb}
+use Rattle.cells.specs.Bytes.{byteAt, word, fits}
+use Rattle.meaning.specs.Attempt.{fails, gives, reads, refuses, unless, reading}
+use Rattle.meaning.specs.Calls.{catalogueAnswer, catalogueCall}
+use Rattle.meaning.specs.Catalogue.{Catalogue, catalogueOf, markDN, ownSound, rowSound, rowsSound}
+use Rattle.meaning.specs.Catalogue.{deeper, sizesExact, catalogueRead}
+use Rattle.meaning.specs.World.{roots, member, fragment}
+use Rattle.catalogue.specs.Answers.{answered, counted}
+use Rattle.catalogue.specs.Fields.{sizeAt, levelAt, kindAt, propAt, kindSound}
+use Rattle.catalogue.specs.Ranks.{rootsFrom}
+use Rattle.catalogue.specs.declared.Checked.{Checked}
+use Rattle.catalogue.specs.declared.Checked.the-variants.{Rows, Unsound}
+use Rattle.catalogue.proofs.FieldLaws.{rows-field, level-field}
+use Rattle.catalogue.proofs.Fragments.{fragment-here, fragment-before, fragment-low}
+use Rattle.catalogue.proofs.Roots.{roots-from, roots-none, roots-skip, roots-take}
+use Rattle.catalogue.proofs.Rows.{rows-end, rows-over, rows-next, passed}
+use Rattle.catalogue.proofs.Sizes.{deeper-zero, deeper-none, deeper-more}
+
+module _ (doc : List ℕ) (r most n : ℕ) where
+  pub own-deep : most < levelAt doc r → false ≡ ownSound (catalogueOf doc n) r most
+  unfolding ownSound catalogueOf levelAt
+  own-deep h = rw (lt-leb (levelAt doc r) most h)
+
+  pub own-far : 63 < levelAt doc r → levelAt doc r ≤ most → false ≡ ownSound (catalogueOf doc n) r most
+  unfolding ownSound catalogueOf levelAt
+  own-far h k = rw (le-leb (levelAt doc r) most k, lt-leb (levelAt doc r) 63 h)
+
+  pub own-kind : levelAt doc r ≤ 63 → levelAt doc r ≤ most
+      → kindSound (sizeAt doc r) (levelAt doc r) (kindAt doc r) (propAt doc r) ≡ ownSound (catalogueOf doc n) r most
+  unfolding ownSound catalogueOf kindSound sizeAt levelAt kindAt propAt
+  own-kind h k = rw (le-leb (levelAt doc r) most k, le-leb (levelAt doc r) 63 h)
+
+  -- the same of numbers that were read
+  pub own-read : {s l k : ℕ} {p : ℤ} → s ≡ sizeAt doc r → l ≡ levelAt doc r → k ≡ kindAt doc r → p ≡ propAt doc r
+      → l ≤ 63 → l ≤ most → kindSound s l k p ≡ ownSound (catalogueOf doc n) r most
+  own-read es el ek ep h i = rw (es, el, ek, ep) (own-kind (omega arith) (omega arith))
+
+module _ (doc : List ℕ) (r most : ℕ) where
+  pub row-cut : fits doc (10 * r) 10 ≡ false → false ≡ rowSound doc r most
+  unfolding rowSound
+  row-cut h = rw h
+
+  pub row-mark : fits doc (10 * r) 10 ≡ true → (word doc (10 * r) 2 ≡ markDN → ⊥) → false ≡ rowSound doc r most
+  unfolding rowSound
+  row-mark h k = rw (h, ne-eqb (word doc (10 * r) 2) markDN k)
+
+  pub row-own : fits doc (10 * r) 10 ≡ true → word doc (10 * r) 2 ≡ markDN
+      → ownSound (catalogueOf doc r) r most ≡ rowSound doc r most
+  unfolding rowSound
+  row-own h k = rw (h, eq-eqb (word doc (10 * r) 2) markDN k)
+
+  -- of n rows at most
+  pub turn-end : (n : ℕ) → length doc ≤ 10 * r → reads r ≡ rowsSound (n - r) doc r most
+  turn-end n h = sym (rows-end doc r most (n - r) h)
+
+  pub turn-over : (n : ℕ) → n ≤ r → 10 * r < length doc → refuses 4 (10 * r) ≡ rowsSound (n - r) doc r most
+  turn-over n h k =
+      let e : zero ≡ n - r = omega arith in
+      sym (rows-over doc r most k) ∙ ap (λ (left : ℕ). rowsSound left doc r most) e
+
+  turn : (n : ℕ) → r < n → 10 * r < length doc → rowsSound (n - r) doc r most
+      ≡ unless (rowSound doc r most) 4 (10 * r) (rowsSound (n - (r + 1)) doc (r + 1) (levelAt doc r + 1))
+  unfolding levelAt
+  turn n h k =
+      let e : n - r ≡ suc (n - (r + 1)) = omega arith in
+      rw (e, add-one r, add-one (byteAt doc (10 * r + 4))) (rows-next doc r most (n - suc r) k)
+
+  pub turn-bad : (n : ℕ) → r < n → 10 * r < length doc → rowSound doc r most ≡ false
+      → refuses 4 (10 * r) ≡ rowsSound (n - r) doc r most
+  unfolding unless
+  turn-bad n h k e = sym (turn n h k ∙ rw e)
+
+  pub turn-on : (n : ℕ) → r < n → 10 * r < length doc → rowSound doc r most ≡ true
+      → rowsSound (n - (r + 1)) doc (r + 1) (levelAt doc r + 1) ≡ rowsSound (n - r) doc r most
+  unfolding unless
+  turn-on n h k e = sym (turn n h k ∙ rw e)
+
+module _ (doc : List ℕ) (n : ℕ) where
+  abbrev cat : Catalogue
+  cat = catalogueOf doc n
+
+  module _ (l v : ℕ) where
+    pub count-end : n ≤ v → deeper cat l v (n - v) ≡ 0
+    count-end h =
+        let e : n - v ≡ zero = omega arith in
+        ap (deeper cat l v) e ∙ deeper-zero cat l v
+
+    pub count-stop : v < n → levelAt doc v ≤ l → deeper cat l v (n - v) ≡ 0
+    count-stop h k =
+        let e : n - v ≡ suc (n - (v + 1)) = omega arith in
+        ap (deeper cat l v) e ∙ deeper-none cat l v (n - (v + 1)) (omega (arith, level-field doc n v))
+
+    pub count-on : v < n → l < levelAt doc v → deeper cat l v (n - v) ≡ suc (deeper cat l (v + 1) (n - (v + 1)))
+    count-on h k =
+        let e : n - v ≡ suc (n - (v + 1)) = omega arith in
+        let next : suc v ≡ v + 1 = omega arith in
+        ap (deeper cat l v) e ∙ deeper-more cat l v (n - (v + 1)) (omega (arith, level-field doc n v))
+        ∙ ap (λ (w : ℕ). suc (deeper cat l w (n - (v + 1)))) next
+
+  module _ (r : ℕ) where
+    pub exact-end : n ≤ r → sizesExact cat r (n - r) ≡ reads cat
+    unfolding sizesExact
+    exact-end h =
+        let e : n - r ≡ zero = omega arith in
+        rw e
+
+    exact : r < n → sizesExact cat r (n - r)
+        ≡ unless (eqb (sizeAt doc r) (deeper cat (levelAt doc r) (r + 1) (n - (r + 1)))) 4 (10 * r)
+        (sizesExact cat (r + 1) (n - (r + 1)))
+    unfolding sizesExact catalogueOf sizeAt levelAt
+    exact h =
+        let e : n - r ≡ suc (n - (r + 1)) = omega arith in
+        rw (e, add-one r)
+
+    -- a size that was read, and the count beside it
+    module _ {s d : ℕ} (read : s ≡ sizeAt doc r) (count : d ≡ deeper cat (levelAt doc r) (r + 1) (n - (r + 1))) where
+      pub exact-bad : r < n → (s ≡ d → ⊥) → sizesExact cat r (n - r) ≡ refuses 4 (10 * r)
+      unfolding unless
+      exact-bad h k = exact h ∙ rw (← read, ← count, ne-eqb s d k)
+
+      pub exact-on : r < n → s ≡ d → sizesExact cat r (n - r) ≡ sizesExact cat (r + 1) (n - (r + 1))
+      unfolding unless
+      exact-on h k = exact h ∙ rw (← read, ← count, eq-eqb s d k)
+
+    pub root-end : (k : ℕ) → n ≤ r → member (rootsFrom cat r (n - r)) k ≡ fails
+    unfolding member
+    root-end k h =
+        let e : n - r ≡ zero = omega arith in
+        rw (e, roots-none cat r)
+
+    -- a level that was read
+    module _ {l : ℕ} (read : l ≡ levelAt doc r) where
+      is-root : l ≡ 0 → cat .level r ≡ 0
+      is-root z = level-field doc n r ∙ sym read ∙ z
+
+      no-root : (l ≡ 0 → ⊥) → cat .level r ≡ 0 → ⊥
+      no-root z y = z (read ∙ sym (level-field doc n r) ∙ y)
+
+      pub root-skip : (k : ℕ) → r < n → (l ≡ 0 → ⊥)
+          → member (rootsFrom cat r (n - r)) k ≡ member (rootsFrom cat (r + 1) (n - (r + 1))) k
+      root-skip k h z =
+          let e : n - r ≡ suc (n - (r + 1)) = omega arith in
+          rw (e, add-one r) (ap (λ (xs : List ℕ). member xs k) (roots-skip cat r (n - suc r) (no-root z)))
+
+      root-first : r < n → l ≡ 0 → member (rootsFrom cat r (n - r)) 0 ≡ gives r
+      unfolding member
+      root-first h z =
+          let e : n - r ≡ suc (n - (r + 1)) = omega arith in
+          rw (e, roots-take cat r (n - (r + 1)) (is-root z))
+
+      pub root-here : (k : ℕ) → r < n → l ≡ 0 → k ≡ 0 → member (rootsFrom cat r (n - r)) k ≡ gives r
+      root-here k h z e = ap (member (rootsFrom cat r (n - r))) e ∙ root-first h z
+
+      root-after : (k : ℕ) → r < n → l ≡ 0
+          → member (rootsFrom cat r (n - r)) (suc k) ≡ member (rootsFrom cat (r + 1) (n - (r + 1))) k
+      unfolding member
+      root-after k h z =
+          let e : n - r ≡ suc (n - (r + 1)) = omega arith in
+          rw (e, add-one r) (ap (λ (xs : List ℕ). member xs (suc k)) (roots-take cat r (n - suc r) (is-root z)))
+
+      pub root-next : (k : ℕ) → r < n → l ≡ 0 → (k ≡ 0 → ⊥)
+          → member (rootsFrom cat r (n - r)) k ≡ member (rootsFrom cat (r + 1) (n - (r + 1))) (k - 1)
+      root-next k h z f =
+          let e : k ≡ suc (k - 1) = omega arith in
+          ap (member (rootsFrom cat r (n - r))) e ∙ root-after (k - 1) h z
+
+      pub fragment-found : l ≡ 0 → r ≡ fragment cat r
+      fragment-found z = sym (fragment-here cat r (is-root z))
+
+      pub fragment-back : 0 < r → (l ≡ 0 → ⊥) → fragment cat (r - 1) ≡ fragment cat r
+      fragment-back h z =
+          let e : suc (r - 1) ≡ r = omega arith in
+          sym (fragment-before cat (r - 1) (λ y. no-root z (ap (cat .level) (sym e) ∙ y))) ∙ ap (fragment cat) e
+
+    pub fragment-first : r ≤ 0 → r ≡ fragment cat r
+    fragment-first h = omega (arith, fragment-low cat r)
+
+  pub root-start : (k : ℕ) → member (rootsFrom cat 0 (n - 0)) k ≡ member (roots cat) k
+  root-start k =
+      let e : n - 0 ≡ cat .rows = omega (arith, rows-field doc n) in
+      ap (λ (m : ℕ). member (rootsFrom cat 0 m) k) e ∙ ap (λ (xs : List ℕ). member xs k) (sym (roots-from cat))
+
+module _ (doc : List ℕ) where
+  abbrev Read : Checked → Type 0
+  Read a = counted a ≡ rowsSound 2048 doc 0 0
+
+  pub check-bad : (p : ℕ) → Read (Unsound p) → answered (Unsound p) ≡ catalogueCall doc
+  unfolding counted answered catalogueCall catalogueAnswer catalogueRead reading
+  check-bad p e = rw (← e)
+
+  pub check-on : (n : ℕ) → Read (Rows n) → catalogueAnswer (sizesExact (catalogueOf doc n) 0 n) ≡ catalogueCall doc
+  unfolding counted catalogueCall catalogueRead reading
+  check-on n e = rw (← e)
+
+  pub check-rows : (n : ℕ) → Read (Rows n) → 10 * n ≤ length doc
+  unfolding counted
+  check-rows n e = omega (arith, passed 2048 doc 0 0 n (omega arith) (sym e) .whole)

@@ -1,0 +1,216 @@
+// The catalogue: its check, the fields of a row, roots and fragments.
+use cells::Rank;
+ghost use mathlib.Core.Path.{_≡_};
+ghost use Prim.Native.Nat.{ℕ, _+_, _*_, _-_, _≤_, _<_};
+ghost use lib.ListN.{length};
+ghost use Rattle.meaning.specs.Calls;
+ghost use Rattle.meaning.specs.Catalogue;
+ghost use Rattle.meaning.specs.World;
+ghost use Rattle.catalogue.specs.Fields;
+ghost use Rattle.catalogue.specs.Answers;
+
+// The number of rows, or the offset of the first row that is unsound.
+pub enum Checked {
+    Rows(usize),
+    Unsound(usize),
+}
+
+// A root, where there is one.
+pub enum Found {
+    At(Rank),
+    Nothing,
+}
+
+// How many rows directly after the row are deeper than it, as the row says.
+pub fn size(doc: &[u8], r: Rank) -> usize
+    requires { ⌜ 10 * (r .0) + 10 ≤ length (now doc) ⌝ }
+    ensures { λ s. ⌜ (s ≡ Fields.sizeAt (now (doc .entry)) (r .0)) × (s < 65536) ⌝ }
+{
+    cells::word2(doc, 10 * r.0 + 2)
+}
+
+// How deep the row is: 0 for a root.
+pub fn level(doc: &[u8], r: Rank) -> usize
+    requires { ⌜ 10 * (r .0) + 10 ≤ length (now doc) ⌝ }
+    ensures { λ l. ⌜ (l ≡ Fields.levelAt (now (doc .entry)) (r .0)) × (l < 256) ⌝ }
+{
+    cells::byte(doc, 10 * r.0 + 4)
+}
+
+// 1 for an element, 3 for a text.
+pub fn kind(doc: &[u8], r: Rank) -> usize
+    requires { ⌜ 10 * (r .0) + 10 ≤ length (now doc) ⌝ }
+    ensures { λ k. ⌜ (k ≡ Fields.kindAt (now (doc .entry)) (r .0)) × (k < 256) ⌝ }
+{
+    cells::byte(doc, 10 * r.0 + 5)
+}
+
+// The name number of an element, the number of a text.
+pub fn prop(doc: &[u8], r: Rank) -> i32
+    requires { ⌜ 10 * (r .0) + 10 ≤ length (now doc) ⌝ }
+    ensures { λ p. ⌜ p ≡ Fields.propAt (now (doc .entry)) (r .0) ⌝ }
+{
+    cells::int4(doc, 10 * r.0 + 6)
+}
+
+// Whether a number is a name number, 0 to 65535.
+fn is_name(prop: i32) -> bool
+    ensures { λ r. ⌜ r ≡ Catalogue.isName prop ⌝ }
+{
+    if prop < 0 { false } else { prop < 65536 }
+}
+
+// A text covers no rows and is no root.
+fn text_sound(size: usize, level: usize) -> bool
+    ensures { λ r. ⌜ r ≡ Fields.textSound size level ⌝ }
+{
+    if size == 0 { 1 <= level } else { false }
+}
+
+// An element has a name; a text is sound; there is no other kind.
+fn kind_sound(size: usize, level: usize, kind: usize, prop: i32) -> bool
+    ensures { λ r. ⌜ r ≡ Fields.kindSound size level kind prop ⌝ }
+{
+    match kind {
+        1 => is_name(prop),
+        3 => text_sound(size, level),
+        _ => false,
+    }
+}
+
+// Whether a row's own fields are sound, where its level may be at most `most`.
+fn own_sound(doc: &[u8], r: Rank, most: usize) -> bool
+    requires { ⌜ 10 * (r .0) + 10 ≤ length (now doc) ⌝ }
+    ensures { λ b. ⌜ b ≡ Catalogue.ownSound (Catalogue.catalogueOf (now (doc .entry)) (r .0)) (r .0) most ⌝ }
+{
+    let l = level(doc, r);
+    if most < l {
+        return false;
+    }
+    if 63 < l {
+        return false;
+    }
+    kind_sound(size(doc, r), l, kind(doc, r), prop(doc, r))
+}
+
+// Whether the row of a rank is all there, has its mark, and is sound in its own fields.
+fn row_sound(doc: &[u8], r: Rank, most: usize) -> bool
+    requires { ⌜ 10 * (r .0) ≤ length (now doc) ⌝ }
+    ensures { λ b. ⌜ b ≡ Catalogue.rowSound (now (doc .entry)) (r .0) most ⌝ }
+{
+    let at = 10 * r.0;
+    if !cells::fits(doc, at, 10) {
+        return false;
+    }
+    if cells::word2(doc, at) != 0x444E {
+        return false;
+    }
+    own_sound(doc, r, most)
+}
+
+// The row checks, left to right.
+fn rows_sound(doc: &[u8]) -> Checked
+    ensures { λ a. ⌜ Answers.counted a ≡ Catalogue.rowsSound 2048 (now (doc .entry)) 0 0 ⌝ }
+{
+    let mut r: usize = 0;
+    let mut most: usize = 0;
+    while r < 2048 {
+        let at = 10 * r;
+        if doc.len() <= at {
+            return Checked::Rows(r);
+        }
+        if !row_sound(doc, Rank(r), most) {
+            return Checked::Unsound(at);
+        }
+        most = level(doc, Rank(r)) + 1;
+        r += 1;
+    }
+    let end = 10 * r;
+    if doc.len() <= end {
+        Checked::Rows(r)
+    } else {
+        Checked::Unsound(end)
+    }
+}
+
+// How many rows directly after the row of rank r are deeper.
+fn deeper(doc: &[u8], rows: usize, r: usize) -> usize
+    requires { ⌜ (10 * rows ≤ length (now doc)) × (r < rows) ⌝ }
+    ensures { λ s. ⌜ s ≡ Catalogue.deeper (Catalogue.catalogueOf (now (doc .entry)) rows)
+        (Fields.levelAt (now (doc .entry)) r) (r + 1) (rows - (r + 1)) ⌝ }
+{
+    let l = level(doc, Rank(r));
+    let mut v = r + 1;
+    while v < rows {
+        if level(doc, Rank(v)) <= l {
+            return v - (r + 1);
+        }
+        v += 1;
+    }
+    v - (r + 1)
+}
+
+// The exact sizes, in row order. Each is counted from its row on: a row is looked at from one row of each level at
+// most.
+fn sizes_exact(doc: &[u8], rows: usize) -> Checked
+    requires { ⌜ 10 * rows ≤ length (now doc) ⌝ }
+    ensures { λ a. ⌜ Answers.answered a
+        ≡ Calls.catalogueAnswer (Catalogue.sizesExact (Catalogue.catalogueOf (now (doc .entry)) rows) 0 rows) ⌝ }
+{
+    let mut r: usize = 0;
+    while r < rows {
+        if size(doc, Rank(r)) != deeper(doc, rows, r) {
+            return Checked::Unsound(10 * r);
+        }
+        r += 1;
+    }
+    Checked::Rows(rows)
+}
+
+// The whole check: every row by itself, then the sizes.
+pub fn check(doc: &[u8]) -> Checked
+    ensures { λ a. ⌜ Answers.answered a ≡ Calls.catalogueCall (now (doc .entry)) ⌝ }
+{
+    let counted = rows_sound(doc);
+    let Checked::Rows(rows) = counted else {
+        return counted;
+    };
+    sizes_exact(doc, rows)
+}
+
+// The root of fragment k, counted from 1.
+pub fn root(doc: &[u8], rows: usize, k: usize) -> Found
+    requires { ⌜ (10 * rows ≤ length (now doc)) × (1 ≤ k) ⌝ }
+    ensures { λ f. ⌜ Answers.found f
+        ≡ World.member (World.roots (Catalogue.catalogueOf (now (doc .entry)) rows)) (k - 1) ⌝ }
+{
+    let mut left = k - 1;
+    let mut r: usize = 0;
+    while r < rows {
+        if level(doc, Rank(r)) != 0 {
+            r += 1;
+            continue;
+        }
+        if left == 0 {
+            return Found::At(Rank(r));
+        }
+        left -= 1;
+        r += 1;
+    }
+    Found::Nothing
+}
+
+// The root of the fragment that the row of rank r is in: the last row of level 0 up to it.
+pub fn fragment(doc: &[u8], r: Rank) -> Rank
+    requires { ⌜ 10 * (r .0) + 10 ≤ length (now doc) ⌝ }
+    ensures { λ f. ⌜ ((n : ℕ) → f .0 ≡ World.fragment (Catalogue.catalogueOf (now (doc .entry)) n) (r .0)) ⌝ }
+{
+    let mut v = r.0;
+    while 0 < v {
+        if level(doc, Rank(v)) == 0 {
+            return Rank(v);
+        }
+        v -= 1;
+    }
+    Rank(v)
+}
