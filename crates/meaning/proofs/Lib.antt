@@ -4,3 +4,7 @@ pub mod Counts
 pub mod Counted
 pub mod Closed
 pub mod Nodes
+pub mod PlanBound
+pub mod PlanWidths
+pub mod PlanBytes
+pub mod PlanRead
