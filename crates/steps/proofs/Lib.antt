@@ -1,0 +1,17 @@
+pub mod Tests
+pub mod Lists
+pub mod Marking
+pub mod Fragments
+pub mod Axes
+pub mod Descendant
+pub mod Passing
+pub mod Following
+pub mod Ancestor
+pub mod Preceding
+pub mod Parents
+pub mod Child
+pub mod Parent
+pub mod Itself
+pub mod Nodes
+pub mod Writing
+pub mod Whole
