@@ -24,3 +24,11 @@ pub mod MachineLifts
 pub mod MachineLoops
 pub mod MachineQueries
 pub mod MachineAgreement
+pub mod RowWidths
+pub mod Room
+pub mod EngineCalls
+pub mod Answers
+pub mod SixBelow
+pub mod EnginesAgree
+pub mod ShutOut
+pub mod Promises

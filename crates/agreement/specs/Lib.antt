@@ -2,3 +2,5 @@ pub mod Typed
 pub mod Families
 pub mod Encoded
 pub mod Machine
+pub mod Room
+pub mod Promises
