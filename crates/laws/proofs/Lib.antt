@@ -5,3 +5,4 @@ pub mod Sorting
 pub mod Numbering
 pub mod Joins
 pub mod Groups
+pub mod Merging

@@ -1,1 +1,9 @@
 pub mod Promise
+pub mod Columns
+pub mod Unrolled
+pub mod Laying
+pub mod Joined
+pub mod Tasks
+pub mod Standing
+pub mod Operators
+pub mod Cells

@@ -1,2 +1,3 @@
 pub mod Layout
 pub mod Tasks
+pub mod Order

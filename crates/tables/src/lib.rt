@@ -1,5 +1,11 @@
 // The operators over tables laid end to end in lent cells.
+mod added;
+mod each;
+mod join;
+mod once;
 mod rows;
+mod search;
+mod whole;
 
 use cells::Function;
 
@@ -19,7 +25,6 @@ pub enum Laid {
 
 // What a row-wise operator does with each row. The columns of Project stand in the plan's bytes: how many, and from where on.
 pub enum Task {
-    Keep,
     Attach(i64),
     Project(usize, usize),
     Minus(Stand),

@@ -1,0 +1,34 @@
+-- `items::given` meets its contract: an integer, widened to a cell, is itself.
+use mathlib.Core.Path.{_≡_, sym, _∙_, ap}
+use mir.Syntax.{w32, w64}
+use mir.Val.{SFits}
+use mir.Facts.{toZ-ofZ, sfits-widen}
+use Rattle.meaning.specs.Attempt.{gives}
+use Rattle.items.specs.Answers.{number, tried}
+use borrow.Author.Needs.{needs}
+use Rattle.items.proofs.given.Statement.{statement}
+use Rattle.items.proofs.given.Tie as tie
+
+enum-known-n : tie.Need-enum-known-n
+enum-known-n c = search needs
+
+-- the integer is one of 32 bits
+narrow : (c : tie.After-known-told) → SFits w32 (c .before .n .given .0 .0)
+narrow c = search needs
+
+cast-t4 : tie.Need-cast-t4
+cast-t4 c = rw (toZ-ofZ (narrow c)) (sfits-widen tt (narrow c))
+
+enum-told : tie.Need-enum-told
+enum-told c = search needs
+
+returns : tie.Need-returns
+unfolding number tried
+returns c = ap gives (toZ-ofZ (cast-t4 c) ∙ toZ-ofZ (narrow c)) ∙ sym (ap number (c .before .n .given .1))
+
+returns-2 : tie.Need-returns-2
+unfolding number tried
+returns-2 c = sym (ap number (c .enum-told .given .1))
+
+pub given-spec : {M : Type 1} → statement M
+given-spec = tie.close (tie.spec enum-known-n cast-t4 enum-told returns returns-2)

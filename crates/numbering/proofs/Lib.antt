@@ -1,0 +1,8 @@
+pub mod Columns
+pub mod Places
+pub mod Halves
+pub mod Numbers
+pub mod Counting
+pub mod Sorted
+pub mod Pass
+pub mod Owed
