@@ -1,3 +1,4 @@
+-- `tables::rows::copy` meets its contract. The loop's invariant: as many cells as were passed are laid where they go.
 use Prim.Native.Nat.{ℕ, suc, _+_, _-_, _≤_, _<_}
 use mathlib.Core.Path.{_≡_, refl, sym, ap, _∙_}
 use mathlib.Core.List.{List, [], _∷_, _++_}
@@ -11,8 +12,6 @@ use Rattle.laws.specs.Rows.{row, laid}
 use Rattle.laws.proofs.Rows.{laid-nothing, copied-more}
 use Rattle.tables.proofs.rows.copy.Statement.{statement}
 use Rattle.tables.proofs.rows.copy.Tie as tie
-use Rattle.tables.proofs.rows.copy.Reads as reads
-use Rattle.tables.proofs.rows.copy.Lts as lts
 
 abbrev Inv-loop : tie.InvT-loop
 Inv-loop work₀ from n to i₀ work i =
@@ -21,44 +20,34 @@ Inv-loop work₀ from n to i₀ work i =
 abbrev μ-loop : tie.MeasureT-loop
 μ-loop work₀ from n to i₀ work i = n - i
 
--- src/rows.rt:13:5
 loop-holds : tie.Need-loop-holds Inv-loop μ-loop
 unfolding row
 loop-holds c = (omega arith, sym (laid-nothing _ _), refl)
 
--- src/rows.rt:14:29
 add-work : tie.Need-add-work Inv-loop μ-loop
 add-work c = search needs
 
--- src/rows.rt:14:24
 mul-work : tie.Need-mul-work Inv-loop μ-loop
 mul-work c = search needs
 
--- src/rows.rt:14:24
 slice-copy-out-work : tie.Need-slice-copy-out-work Inv-loop μ-loop
 slice-copy-out-work c = search needs
 
--- src/rows.rt:14:14
 add-t11 : tie.Need-add-t11 Inv-loop μ-loop
 add-t11 c = search needs
 
--- src/rows.rt:14:9
 mul-t12 : tie.Need-mul-t12 Inv-loop μ-loop
 mul-t12 c = search needs
 
--- src/rows.rt:14:9
 slice-set-from-work : tie.Need-slice-set-from-work Inv-loop μ-loop
 slice-set-from-work c = search needs
 
--- src/rows.rt:15:9
 add-i : tie.Need-add-i Inv-loop μ-loop
 add-i c = search needs
 
--- src/rows.rt:13:5
 loop-less : tie.Need-loop-less Inv-loop μ-loop
 loop-less c = search needs
 
--- src/rows.rt:13:5
 loop-again : tie.Need-loop-again Inv-loop μ-loop
 loop-again c = (
   omega arith,
@@ -66,11 +55,9 @@ loop-again c = (
   simp length-set (c .before .before .loop .inv .2),
 )
 
--- src/rows.rt:8:1
 same-length : tie.Need-same-length Inv-loop μ-loop
 same-length c = c .before .loop .inv .2
 
--- src/rows.rt:8:1
 returns : tie.Need-returns Inv-loop μ-loop
 returns c =
     let e : c .before .loop .i ≡ c .before .before .args .n = omega arith in
