@@ -20,7 +20,8 @@ use Rattle.queries.specs.Statements.{Parses, Accepted}
 
 -- One, two and three operands
 
-one-parses : (f : Query → Query) (a : Reading Read) (p : Parsed) → Found (Parses p) a → Found (Parses (lone f p)) (one f a)
+one-parses :
+    (f : Query → Query) (a : Reading Read) (p : Parsed) → Found (Parses p) a → Found (Parses (lone f p)) (one f a)
 unfolding one leaf lone attempt
 one-parses f a p h = found-reading h (λ x e. found-reads (rw e))
 
@@ -29,11 +30,13 @@ two-parses :
     Found (Parses p) a → ((n at : ℕ) → Found (Parses (pd at)) (b n at)) → Found (Parses (pair f p pd)) (two f a b)
 unfolding two pair attempt
 two-parses f a b p pd h k =
-    found-reading h (λ x e. rw e (one-parses (f (x .tree)) (b (x .records) (x .next)) (pd (x .next)) (k (x .records) (x .next))))
+    found-reading h
+    (λ x e. rw e (one-parses (f (x .tree)) (b (x .records) (x .next)) (pd (x .next)) (k (x .records) (x .next))))
 
 three-parses :
     (f : Query → Query → Query → Query) (c : Reading Read) (a b : ℕ → ℕ → Reading Read) (p : Parsed) (pd : ℕ → Parsed) →
-    Found (Parses p) c → ((n at : ℕ) → Found (Parses (pd at)) (a n at)) → ((n at : ℕ) → Found (Parses (pd at)) (b n at)) →
+    Found (Parses p) c →
+    ((n at : ℕ) → Found (Parses (pd at)) (a n at)) → ((n at : ℕ) → Found (Parses (pd at)) (b n at)) →
     Found (Parses (triple f p pd pd)) (three f c a b)
 unfolding three triple attempt
 three-parses f c a b p pd h k l =
@@ -75,7 +78,8 @@ read-found (suc d) bs vs n at =
     (λ t. rw e (operands-parse (read d bs) (parse d bs) (read-found d bs) (x .0) vs at (suc n) (x .1))))
 
 pub read-parses :
-    (d : ℕ) (bs vs : List ℕ) (n at : ℕ) (r : Read) → read d bs vs n at ≡ reads r → parse d bs at ≡ gives (r .tree, r .next)
+    (d : ℕ) (bs vs : List ℕ) (n at : ℕ) (r : Read) →
+    read d bs vs n at ≡ reads r → parse d bs at ≡ gives (r .tree, r .next)
 read-parses d bs vs n at r e = read-found d bs vs n at .found r e
 
 query-found : (bs : List ℕ) → Found (λ r. parse 32 bs 0 ≡ gives (r .tree, length bs)) (queryRead bs)

@@ -20,7 +20,8 @@ use Rattle.cells.specs.declared.Axis.{Axis}
 use Rattle.cells.specs.declared.Test.{Test}
 use Rattle.meaning.specs.Attempt.{Attempt, fails, gives, attempt, provided}
 use Rattle.meaning.specs.Query as Query
-use Rattle.meaning.specs.Query.{sized, functionOf, axisOf, testOf, variableOf, booleanOf}
+use Rattle.meaning.specs.Query.{markQL, markQB, markQE, markQR, markQV, markQS, markQT, markQF, markQI, markQO, markQC}
+use Rattle.meaning.specs.Query.{markQD, markQX, sized, functionOf, axisOf, testOf, variableOf, booleanOf}
 use Rattle.queries.specs.declared.Record.{Record}
 use Rattle.queries.specs.declared.Record.the-variants as Record
 use Rattle.queries.specs.declared.Reading.{Reading}
@@ -103,24 +104,25 @@ test-none n name ((((h, a), b), c), d) =
 pub record-none :
     (bs : List ℕ) (at m : ℕ) →
     NoneOf m
-    (0x5158 ∷ 0x5144 ∷ 0x5143 ∷ 0x514F ∷ 0x5149 ∷ 0x5146 ∷ 0x5154 ∷ 0x5153 ∷ 0x5156 ∷ 0x5152 ∷ 0x5145 ∷ 0x5142 ∷ 0x514C ∷ []) →
+    (markQX ∷ markQD ∷ markQC ∷ markQO ∷ markQI ∷ markQF ∷ markQT ∷ markQS ∷ markQV ∷ markQR ∷ markQE ∷ markQB ∷ markQL
+    ∷ []) →
     Query.recordOf bs at m ≡ fails
 unfolding Query.recordOf
 record-none bs at m (((((((((((((h, a), b), c), d), e), f), g), i), j), k), l), n), o) =
     simp (
-      ne-eqb m 0x514C a,
-      ne-eqb m 0x5142 b,
-      ne-eqb m 0x5145 c,
-      ne-eqb m 0x5152 d,
-      ne-eqb m 0x5156 e,
-      ne-eqb m 0x5153 f,
-      ne-eqb m 0x5154 g,
-      ne-eqb m 0x5146 i,
-      ne-eqb m 0x5149 j,
-      ne-eqb m 0x514F k,
-      ne-eqb m 0x5143 l,
-      ne-eqb m 0x5144 n,
-      ne-eqb m 0x5158 o,
+      ne-eqb m markQL a,
+      ne-eqb m markQB b,
+      ne-eqb m markQE c,
+      ne-eqb m markQR d,
+      ne-eqb m markQV e,
+      ne-eqb m markQS f,
+      ne-eqb m markQT g,
+      ne-eqb m markQF i,
+      ne-eqb m markQI j,
+      ne-eqb m markQO k,
+      ne-eqb m markQC l,
+      ne-eqb m markQD n,
+      ne-eqb m markQX o,
     )
 
 -- A record of a variable
@@ -182,8 +184,8 @@ module _
     step-no-test q = means-fails bs at 6 _ h (rw (sym e ∙ ap axisField p, sym test-is ∙ ap testField q))
 
     pub step-means :
-        (test : Test) (r : Reading) → t ≡ TestField.Is test → r ≡ Sound (record { kind = Record.Step axis test; next = at + 6 }) →
-        Means r (stepRecord bs at)
+        (test : Test) (r : Reading) → t ≡ TestField.Is test →
+        r ≡ Sound (record { kind = Record.Step axis test; next = at + 6 }) → Means r (stepRecord bs at)
     unfolding stepRecord attempt recordOf
     step-means test r q s =
         means-sized bs at 6 _ r (Record.Step axis test) s h tt
@@ -216,19 +218,19 @@ module _ (bs : List ℕ) (at : ℕ) where
   pub record-cut : (mark : ℕ) → fits bs at 2 ≡ false → Query.recordOf bs at mark ≡ fails
   unfolding Query.recordOf
   record-cut mark e =
-      either (eqb mark Query.markQL) _ _ (shorter 6 _ (omega arith) e)
-      (either (eqb mark Query.markQB) _ _ (shorter 3 _ (omega arith) e)
-      (either (eqb mark Query.markQE) _ _ (shorter 2 _ (omega arith) e)
-      (either (eqb mark Query.markQR) _ _ (shorter 3 _ (omega arith) e)
-      (either (eqb mark Query.markQV) _ _ (shorter 3 _ (omega arith) e)
-      (either (eqb mark Query.markQS) _ _ (shorter 2 _ (omega arith) e)
-      (either (eqb mark Query.markQT) _ _ (shorter 3 _ (omega arith) e)
-      (either (eqb mark Query.markQF) _ _ (shorter 3 _ (omega arith) e)
-      (either (eqb mark Query.markQI) _ _ (shorter 2 _ (omega arith) e)
-      (either (eqb mark Query.markQO) _ _ (shorter 3 _ (omega arith) e)
-      (either (eqb mark Query.markQC) _ _ (shorter 2 _ (omega arith) e)
-      (either (eqb mark Query.markQD) _ _ (shorter 2 _ (omega arith) e)
-      (either (eqb mark Query.markQX) _ _ (shorter 6 _ (omega arith) e) refl))))))))))))
+      either (eqb mark markQL) _ _ (shorter 6 _ (omega arith) e)
+      (either (eqb mark markQB) _ _ (shorter 3 _ (omega arith) e)
+      (either (eqb mark markQE) _ _ (shorter 2 _ (omega arith) e)
+      (either (eqb mark markQR) _ _ (shorter 3 _ (omega arith) e)
+      (either (eqb mark markQV) _ _ (shorter 3 _ (omega arith) e)
+      (either (eqb mark markQS) _ _ (shorter 2 _ (omega arith) e)
+      (either (eqb mark markQT) _ _ (shorter 3 _ (omega arith) e)
+      (either (eqb mark markQF) _ _ (shorter 3 _ (omega arith) e)
+      (either (eqb mark markQI) _ _ (shorter 2 _ (omega arith) e)
+      (either (eqb mark markQO) _ _ (shorter 3 _ (omega arith) e)
+      (either (eqb mark markQC) _ _ (shorter 2 _ (omega arith) e)
+      (either (eqb mark markQD) _ _ (shorter 2 _ (omega arith) e)
+      (either (eqb mark markQX) _ _ (shorter 6 _ (omega arith) e) refl))))))))))))
 
 pub fragment-is : (k : ℕ) → NoneOf k (0 ∷ []) → Fits w8 k → Query.fragmentOf k ≡ gives k
 unfolding Query.fragmentOf provided

@@ -47,7 +47,8 @@ module _ (bs : List ℕ) (at : ℕ) (r : Found) (m : Means r (recordOf bs at (wo
     pub found-small : SmallLiteral (f .kind)
     found-small = subst Smalls h (m .small)
 
-    pub found-parses : (d : ℕ) → (d ≡ 0 → ⊥) → parse d bs at ≡ trees (parse (d - 1) bs) at (f .next) (Code.recordOf (f .kind))
+    pub found-parses :
+        (d : ℕ) → (d ≡ 0 → ⊥) → parse d bs at ≡ trees (parse (d - 1) bs) at (f .next) (Code.recordOf (f .kind))
     unfolding parse attempt
     found-parses zero z = absurd (z refl)
     found-parses (suc d) z = let k : suc d - 1 ≡ d = omega arith in rw (k, found-gives)

@@ -6,3 +6,4 @@ pub mod Parsing
 pub mod Walking
 pub mod Callers
 pub mod Skipping
+pub mod FieldRanges

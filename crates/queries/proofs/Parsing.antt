@@ -1,5 +1,5 @@
--- Laws of `parse`: taking a tree apart by its operands, more depth changes nothing, a tree ends after its offset and within
--- the bytes.
+-- Laws of `parse`: a tree is taken apart by its operands, more depth changes nothing, and a tree ends after its offset
+-- and within the bytes.
 --     lone-gives, pair-gives, triple-gives    the operands of a tree that is given
 --     parse-more              more levels allowed: the same tree
 --     trees-spans             every tree is spanned by its operands
@@ -76,7 +76,8 @@ module _ (rd pd : ℕ → Parsed) (h : (at : ℕ) → More (rd at) (pd at)) wher
   unfolding pair
   pair-more f next = attempt-more (rd next) (pd next) _ _ (h next) (λ x. lone-more (f (x .0)) (x .1))
 
-  triple-more : (f : Query → Query → Query → Query) (next : ℕ) → More (triple f (rd next) rd rd) (triple f (pd next) pd pd)
+  triple-more :
+      (f : Query → Query → Query → Query) (next : ℕ) → More (triple f (rd next) rd rd) (triple f (pd next) pd pd)
   unfolding triple
   triple-more f next = attempt-more (rd next) (pd next) _ _ (h next) (λ x. pair-more (f (x .0)) (x .1))
 

@@ -40,7 +40,8 @@ module _ (bs : List ℕ) (at : ℕ) (r : Found) (m : Means r (recordOf bs at (wo
   parse-unsound h x p = fails-gives x (sym (unfound-parses bs at r m h d) ∙ p)
 
   pub parse-sound :
-      (f : Decoded) (o p : Operands) → r ≡ Found.Sound f → (d ≡ 0 → ⊥) → o ≡ operandsOf (Code.recordOf (f .kind)) → o ≡ p →
+      (f : Decoded) (o p : Operands) → r ≡ Found.Sound f → (d ≡ 0 → ⊥) →
+      o ≡ operandsOf (Code.recordOf (f .kind)) → o ≡ p →
       (x : Query × ℕ) → parse d bs at ≡ gives x → Spans (parse (d - 1) bs) (f .next) p (x .0) (x .1)
   parse-sound f o p h z q s x t =
       subst (λ (o : Operands). Spans (parse (d - 1) bs) (f .next) o (x .0) (x .1)) (sym q ∙ s)

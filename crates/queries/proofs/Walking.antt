@@ -1,4 +1,4 @@
--- The query check's steps follow the definition: `walk` is `read` without the tree, under the flags of the bound variables.
+-- The query check's steps follow the definition: `walk` is `read` without the tree, under flags for the variables.
 --     flags-none      no variable is bound
 --     flags-set       one more variable is bound
 --     walk-read       `walk` under the flags of vs is `read` under vs, without the tree
@@ -73,7 +73,8 @@ unfolding passes reading
 passes-then (refuses n p) f g h = refl
 passes-then (reads x) f g h = h x
 
-recordAt-gives : (bs : List ℕ) (at : ℕ) (x : Record × ℕ) → recordAt bs at ≡ reads x → recordOf bs at (word bs at 2) ≡ gives x
+recordAt-gives :
+    (bs : List ℕ) (at : ℕ) (x : Record × ℕ) → recordAt bs at ≡ reads x → recordOf bs at (word bs at 2) ≡ gives x
 unfolding recordAt
 recordAt-gives bs at x e = refusing-apart 1 at (recordOf bs at (word bs at 2)) x e
 
@@ -85,7 +86,8 @@ flags-none = record { eight = refl; flag = λ v h. getD-replicate 8 v false fals
 
 -- the flag of one variable after another is set
 or-set :
-    (v u : ℕ) (fs : List Bool) (b : Bool) → u < length fs → getD fs v false ≡ b → getD (set fs u true) v false ≡ eqb v u || b
+    (v u : ℕ) (fs : List Bool) (b : Bool) → u < length fs → getD fs v false ≡ b →
+    getD (set fs u true) v false ≡ eqb v u || b
 or-set v u fs b h e = go (ℕ-discrete v u)
   where
     go : Dec (v ≡ u) → getD (set fs u true) v false ≡ eqb v u || b

@@ -30,4 +30,5 @@ applyRecord bs at = sized bs at 3 (attempt (functionOf (byteAt bs (at + 2))) (λ
 unfoldable pub stepRecord : List ℕ → ℕ → Attempt (Record × ℕ)
 stepRecord bs at =
     sized bs at 6
-    (attempt (axisOf (byteAt bs (at + 2))) (λ x. attempt (testOf (byteAt bs (at + 3)) (word bs (at + 4) 2)) (λ t. gives (step x t))))
+    (attempt (axisOf (byteAt bs (at + 2)))
+    (λ x. attempt (testOf (byteAt bs (at + 3)) (word bs (at + 4) 2)) (λ t. gives (step x t))))

@@ -1,12 +1,12 @@
 -- What the answers of the code stand for in document 01 ('Query records', 'The eight refusals').
 --     recordOf r         a record of the code as a record of the definitions
 --     readingOf r        what reading at an offset found: the record and the offset after it, or failing
---     SmallLiteral, Smalls    the literal of a record is an integer or a boolean
---     Means r a          what reading found is the attempt a of the definitions
+--     SmallLiteral, Smalls    the literal of a record has a cell far from the greatest number
+--     Means r a          what reading found is the attempt a of the definitions, and its literal is small
 --     axisField, testField, numberField    what stands in a field, or failing
 --     operandsOf r       what follows a record
 --     answered c         the answer of the query check: the number of records, or refusal 1, 2 or 3 and its place
---     walked w           how far the query check came: the offset and the records so far, or refusal 1, 2 or 3 and its place
+--     walked w           how far the query check came: the offset and the records so far, or refusal 1, 2 or 3
 use Prim.Native.Nat.{ℕ}
 use mathlib.Core.Path.{_≡_}
 use mathlib.Core.List.{[], _∷_}
@@ -52,7 +52,7 @@ unfoldable pub readingOf : Read → Attempt (Query.Record × ℕ)
 readingOf (Read.Sound d) = gives (recordOf (d .kind), d .next)
 readingOf Read.Unsound = fails
 
--- a literal is an integer or a boolean: its cell is far from the greatest number
+-- what the cell of a literal asks: an integer and a boolean keep it, and no literal is a node
 abbrev pub SmallLiteral : Record → Type 0
 SmallLiteral (Record.Literal i) = Small i
 SmallLiteral Record.Empty = Unit {0}

@@ -1,5 +1,5 @@
--- The tree at an offset, without the limits that only the query check knows (document 01, 'Query records'): evaluator and
--- translator read accepted queries, and see neither refusal 2 nor refusal 3.
+-- The tree at an offset, without the limits that only the query check knows (document 01, 'Query records'):
+-- evaluator and translator read accepted queries, and see neither refusal 2 nor refusal 3.
 --     lone f a          a tree over one operand, and the offset after it
 --     pair f a b        a tree over two operands, the second read from where the first ends
 --     triple f c a b    a tree over three operands

@@ -5,14 +5,26 @@
 --     Accepted bs r       the bytes parse to r's tree, which is closed and has r's records, at most 128
 --     More a b            what a gives, b gives
 --     Spans rd next o q e     the operands o of a tree q, read by rd from next on, end at e; q's free variables by theirs
+--     Bytes bs            every number of bs is below 256
+--     PlainCell z         z is the cell of an integer or of a boolean
+--     NameFits t          the name of a test fits two bytes
+--     Written r           a record's literal is an integer or a boolean, and its name fits two bytes
+--     Fielded q           the fields of every record of a tree are in their ranges
 use Prim.Native.Nat.{ℕ, _≤_, _<_}
 use mathlib.Core.Path.{_≡_}
-use mathlib.Core.Bool.{false, not, _&&_, _||_}
+use mathlib.Core.Logic.{_⊎_}
+use mathlib.Core.Bool.{true, false, not, _&&_, _||_}
 use mathlib.Core.List.{List, []}
 use lib.Dec.{eqb}
+use lib.IntN.{ℤ}
 use lib.ListN.{length}
+use Rattle.cells.specs.Bytes.{byteAt}
+use Rattle.cells.specs.Cell.{falseCell, trueCell, inRange}
+use Rattle.cells.specs.declared.Test.{Test}
+use Rattle.cells.specs.declared.Test.the-variants.{AnyNode, Element, Text, Named}
 use Rattle.meaning.specs.Attempt.{Attempt, gives}
-use Rattle.meaning.specs.Query.{Query, Record, literal, empty, root, variable, sequence, letting, for, choice}
+use Rattle.meaning.specs.Query.{Query, QL, QE, QR, QV, QS, QT, QF, QI, QO, QC, QD, QX, Record, literal, empty, root}
+use Rattle.meaning.specs.Query.{variable, sequence, letting, for, choice}
 use Rattle.meaning.specs.Query.{function, counting, values, step, Read, free}
 use Rattle.meaning.proofs.Closed.{Closed, records}
 use Rattle.queries.specs.declared.Operands.{Operands}
@@ -20,18 +32,18 @@ use Rattle.queries.specs.declared.Operands.the-variants.{None, Variable,
 use Rattle.queries.specs.Parse.{Parsed, parse}
 
 unfoldable pub Ranged : Record → Type 0
-Ranged (literal z) = Unit
-Ranged empty = Unit
+Ranged (literal z) = Unit {0}
+Ranged empty = Unit {0}
 Ranged (root k) = (1 ≤ k) × (k ≤ 255)
 Ranged (variable v) = v < 8
-Ranged sequence = Unit
+Ranged sequence = Unit {0}
 Ranged (letting v) = v < 8
 Ranged (for v) = v < 8
-Ranged choice = Unit
-Ranged (function f) = Unit
-Ranged counting = Unit
-Ranged values = Unit
-Ranged (step x t) = Unit
+Ranged choice = Unit {0}
+Ranged (function f) = Unit {0}
+Ranged counting = Unit {0}
+Ranged values = Unit {0}
+Ranged (step x t) = Unit {0}
 
 pub record Sound (bs : List ℕ) (at : ℕ) (x : Record × ℕ) : Type 0 where
   pub after : at < x .1
@@ -65,3 +77,43 @@ Spans rd next Three q e =
     (w : Query × ℕ) × (x : Query × ℕ) × (y : Query × ℕ) ×
     (rd next ≡ gives w) × (rd (w .1) ≡ gives x) × (rd (x .1) ≡ gives y) × (y .1 ≡ e) ×
     ((v : ℕ) → free v q ≡ free v (w .0) || free v (x .0) || free v (y .0))
+
+abbrev pub Bytes : List ℕ → Type 0
+Bytes bs = (i : ℕ) → byteAt bs i < 256
+
+abbrev pub PlainCell : ℤ → Type 0
+PlainCell z = (inRange z ≡ true) ⊎ ((z ≡ falseCell) ⊎ (z ≡ trueCell))
+
+abbrev pub NameFits : Test → Type 0
+NameFits AnyNode = Unit {0}
+NameFits Element = Unit {0}
+NameFits Text = Unit {0}
+NameFits (Named n) = n < 65536
+
+unfoldable pub Written : Record → Type 0
+Written (literal z) = PlainCell z
+Written empty = Unit {0}
+Written (root k) = Unit {0}
+Written (variable v) = Unit {0}
+Written sequence = Unit {0}
+Written (letting v) = Unit {0}
+Written (for v) = Unit {0}
+Written choice = Unit {0}
+Written (function f) = Unit {0}
+Written counting = Unit {0}
+Written values = Unit {0}
+Written (step x t) = NameFits t
+
+unfoldable pub Fielded : Query → Type 0
+Fielded (QL at z) = PlainCell z
+Fielded (QE at) = Unit {0}
+Fielded (QR at k) = (1 ≤ k) × (k ≤ 255)
+Fielded (QV at v) = v < 8
+Fielded (QS at a b) = Fielded a × Fielded b
+Fielded (QT at v a b) = (v < 8) × Fielded a × Fielded b
+Fielded (QF at v a b) = (v < 8) × Fielded a × Fielded b
+Fielded (QI at c a b) = Fielded c × Fielded a × Fielded b
+Fielded (QO at f a b) = Fielded a × Fielded b
+Fielded (QC at a) = Fielded a
+Fielded (QD at a) = Fielded a
+Fielded (QX at x t a) = NameFits t × Fielded a

@@ -1,5 +1,7 @@
 -- The query check without its tree: what the code does, step by step. The bound variables are eight flags.
 --     passes r             what reading finds, without the tree: the offset after it and the records so far
+--     two rd fs gs n at    two operands from an offset on, the first under the flags fs, the second under gs
+--     three rd fs n at     three operands from an offset on
 --     steps rd fs at n next o    the operands of a record at an offset, n records so far with it, read by rd from next on
 --     walk d bs fs n at    the query at an offset, d more levels allowed, fs the flags of the variables bound there,
 --                          n records before it
@@ -28,7 +30,6 @@ Walker = List Bool → ℕ → ℕ → Passing
 unfoldable pub passes : Reading Read → Passing
 passes r = reading r (λ x. reads (x .next, x .records))
 
--- one operand after another: the first under the flags fs, the second under gs
 unfoldable pub two : Walker → List Bool → List Bool → ℕ → ℕ → Passing
 two rd fs gs n at = reading (rd fs n at) (λ x. rd gs (x .1) (x .0))
 

@@ -81,8 +81,8 @@ pub enum Reading {
     Unsound,
 }
 
-// What follows a record: no operand, a variable's name and no operand, one operand, two, two of which the second sees one
-// more variable, or three.
+// What follows a record: no operand; no operand, and a variable must be bound; one operand; two; two of which the
+// second sees one more variable; three.
 enum Operands {
     None,
     Variable(usize),
@@ -244,9 +244,10 @@ fn root_record(query: &[u8], at: usize) -> Reading
     }
     let next = at + 3;
     let byte = query[at + 2];
+    let k = byte as usize;
     match byte {
         0 => Reading::Unsound,
-        1..=255 => sound(Record::Root(byte as usize), next),
+        1..=255 => sound(Record::Root(k), next),
     }
 }
 
@@ -361,7 +362,8 @@ fn lookup(flags: [bool; 8], v: usize, at: usize, next: usize, n: usize) -> Walk
     }
 }
 
-// The query at an offset: depth more levels are allowed, n records stand before it, and flags says which variables are bound.
+// The query at an offset: depth more levels are allowed, n records stand before it, and flags says which variables
+// are bound.
 fn operand(query: &[u8], at: usize, depth: usize, n: usize, flags: [bool; 8]) -> Walk
     ensures { λ r. ⌜ walked r ≡ walk depth (now (query .entry)) flags n at ⌝ }
 {

@@ -49,8 +49,24 @@ callees t = (
   either-reads.Learnt,
 )
 
+-- where the record and its operands are known, and where the function starts
+abbrev Known : ℕ → Type 0
+Known t = free-lts.After-following (callees t) (free-at t) free.Post
+
+abbrev Start : ℕ → Type 0
+Start t = free-lts.Start (callees t) (free-at t) free.Post
+
+abbrev start : (t : ℕ) → Known t → Start t
+start t c = c .before .before .before .before .before .before .before
+
+-- one level less is left
+less : (t : ℕ) (c : Known t) → start t c .args .depth - 1 < t
+less t c = omega (arith, start t c .pre .0, c .before .before .before .before .before .if1 .left)
+
 free-returns : (t : ℕ) → free-lts.Need-returns (callees t) (free-at t) free.Post
-free-returns t c = λ x p. absurd (parse-deep (c .before .before .args .query .now) (c .before .before .args .at) (c .before .before .args .depth) (c .if1 .taken) x p)
+free-returns t c =
+    let a = c .before .before .args in
+    λ x p. absurd (parse-deep (a .query .now) (a .at) (a .depth) (c .if1 .taken) x p)
 
 free-read-requires : (t : ℕ) → free-lts.Need-read-requires (callees t) (free-at t) free.Post
 free-read-requires t c κs = search needs
@@ -87,19 +103,19 @@ free-enum-told-3 : (t : ℕ) → free-lts.Need-enum-told-3 (callees t) (free-at 
 free-enum-told-3 t c = search needs
 
 free-free-requires : (t : ℕ) → free-lts.Need-free-requires (callees t) (free-at t) free.Post
-free-free-requires t c κs = omega (arith, c .before .before .before .before .before .before .before .before .before .pre .0, c .before .before .before .before .before .before .before .if1 .left)
+free-free-requires t c κs = omega (arith, less t (c .before .before))
 
 free-enum-told-4 : (t : ℕ) → free-lts.Need-enum-told-4 (callees t) (free-at t) free.Post
 free-enum-told-4 t c = search needs
 
 free-free-requires-2 : (t : ℕ) → free-lts.Need-free-requires-2 (callees t) (free-at t) free.Post
-free-free-requires-2 t c κs = omega (arith, c .before .before .before .before .before .before .before .before .before .pre .0, c .before .before .before .before .before .before .before .if1 .left)
+free-free-requires-2 t c κs = omega (arith, less t (c .before .before))
 
 free-skip-requires : (t : ℕ) → free-lts.Need-skip-requires (callees t) (free-at t) free.Post
 free-skip-requires t c κs = search needs
 
 free-free-requires-3 : (t : ℕ) → free-lts.Need-free-requires-3 (callees t) (free-at t) free.Post
-free-free-requires-3 t c κs = omega (arith, c .before .before .before .before .before .before .before .before .before .before .before .pre .0, c .before .before .before .before .before .before .before .before .before .if1 .left)
+free-free-requires-3 t c κs = omega (arith, less t (c .before .before .before .before))
 
 free-either-requires : (t : ℕ) → free-lts.Need-either-requires (callees t) (free-at t) free.Post
 free-either-requires t c κs = search needs
@@ -111,10 +127,10 @@ free-skip-requires-2 : (t : ℕ) → free-lts.Need-skip-requires-2 (callees t) (
 free-skip-requires-2 t c κs = search needs
 
 free-free-requires-4 : (t : ℕ) → free-lts.Need-free-requires-4 (callees t) (free-at t) free.Post
-free-free-requires-4 t c κs = omega (arith, c .before .before .before .before .before .before .before .before .before .before .before .pre .0, c .before .before .before .before .before .before .before .before .before .if1 .left)
+free-free-requires-4 t c κs = omega (arith, less t (c .before .before .before .before))
 
 free-free-requires-5 : (t : ℕ) → free-lts.Need-free-requires-5 (callees t) (free-at t) free.Post
-free-free-requires-5 t c κs = omega (arith, c .before .before .before .before .before .before .before .before .before .before .before .before .pre .0, c .before .before .before .before .before .before .before .before .before .before .if1 .left)
+free-free-requires-5 t c κs = omega (arith, less t (c .before .before .before .before .before))
 
 free-with-requires-2 : (t : ℕ) → free-lts.Need-with-requires-2 (callees t) (free-at t) free.Post
 free-with-requires-2 t c κs = search needs
@@ -132,27 +148,28 @@ free-skip-requires-4 : (t : ℕ) → free-lts.Need-skip-requires-4 (callees t) (
 free-skip-requires-4 t c κs = search needs
 
 free-free-requires-6 : (t : ℕ) → free-lts.Need-free-requires-6 (callees t) (free-at t) free.Post
-free-free-requires-6 t c κs = omega (arith, c .before .before .before .before .before .before .before .before .before .before .before .pre .0, c .before .before .before .before .before .before .before .before .before .if1 .left)
+free-free-requires-6 t c κs = omega (arith, less t (c .before .before .before .before))
 
 free-free-requires-7 : (t : ℕ) → free-lts.Need-free-requires-7 (callees t) (free-at t) free.Post
-free-free-requires-7 t c κs = omega (arith, c .before .before .before .before .before .before .before .before .before .before .before .before .pre .0, c .before .before .before .before .before .before .before .before .before .before .if1 .left)
+free-free-requires-7 t c κs = omega (arith, less t (c .before .before .before .before .before))
 
 free-either-requires-3 : (t : ℕ) → free-lts.Need-either-requires-3 (callees t) (free-at t) free.Post
 free-either-requires-3 t c κs = search needs
 
 free-free-requires-8 : (t : ℕ) → free-lts.Need-free-requires-8 (callees t) (free-at t) free.Post
-free-free-requires-8 t c κs = omega (arith, c .before .before .before .before .before .before .before .before .before .before .before .before .before .before .pre .0, c .before .before .before .before .before .before .before .before .before .before .before .before .if1 .left)
+free-free-requires-8 t c κs = omega (arith, less t (c .before .before .before .before .before .before .before))
 
 free-either-requires-4 : (t : ℕ) → free-lts.Need-either-requires-4 (callees t) (free-at t) free.Post
 free-either-requires-4 t c κs = search needs
 
 -- the operands of the record, where there is a tree
 operands :
-    (t : ℕ) (c : free-lts.After-following (callees t) (free-at t) free.Post) (p : Operands) → c .following .result ≡ p →
-    (x : Query × ℕ) → parse (c .before .before .before .before .before .before .before .args .depth) (c .before .before .before .before .before .before .before .args .query .now) (c .before .before .before .before .before .before .before .args .at) ≡ gives x →
-    Spans (parse (c .before .before .before .before .before .before .before .args .depth - 1) (c .before .before .before .before .before .before .before .args .query .now)) (c .before .before .found .given .0 .0 .next) p (x .0) (x .1)
+    (t : ℕ) (c : Known t) (p : Operands) → c .following .result ≡ p → (x : Query × ℕ) →
+    parse (start t c .args .depth) (start t c .args .query .now) (start t c .args .at) ≡ gives x →
+    Spans (parse (start t c .args .depth - 1) (start t c .args .query .now))
+    (c .before .before .found .given .0 .0 .next) p (x .0) (x .1)
 operands t c p e =
-    let a = c .before .before .before .before .before .before .before .args in
+    let a = start t c .args in
     let r = c .before .before .before .before .read in
     let f = c .before .before .found .given in
     parse-sound (a .query .now) (a .at) (r .result) (r .ensures) (a .depth) (f .0 .0) (c .following .result) p (f .1)
@@ -164,30 +181,45 @@ free-returns-3 t c = λ x p. free-none _ _ _ _ (operands t (c .before .before) N
 free-returns-4 : (t : ℕ) → free-lts.Need-returns-4 (callees t) (free-at t) free.Post
 free-returns-4 t c = λ x p.
     let v = c .before .before .v .given in
-    rw (c .with .ensures) (free-variable _ _ _ _ (v .0 .0) (operands t (c .before .before .before .before) (Variable (v .0 .0)) (v .1) x p))
+    rw (c .with .ensures)
+    (free-variable _ _ _ _ (v .0 .0) (operands t (c .before .before .before .before) (Variable (v .0 .0)) (v .1) x p))
 
 free-returns-5 : (t : ℕ) → free-lts.Need-returns-5 (callees t) (free-at t) free.Post
 free-returns-5 t c = λ x p.
-    free-one _ _ _ _ (c .free .result) (c .free .ensures) (operands t (c .before .before .before) One (c .before .enum-told3 .given .1) x p)
+    free-one _ _ _ _ (c .free .result) (c .free .ensures)
+    (operands t (c .before .before .before) One (c .before .enum-told3 .given .1) x p)
 
 free-returns-6 : (t : ℕ) → free-lts.Need-returns-6 (callees t) (free-at t) free.Post
 free-returns-6 t c = λ x p.
-    free-two _ _ _ _ _ (c .before .before .before .free2 .result) (c .before .free3 .result) (c .either .result) (c .before .before .skip .ensures) (c .before .before .before .free2 .ensures) (c .before .free3 .ensures) (c .either .ensures)
-    (operands t (c .before .before .before .before .before .before) Two (c .before .before .before .before .enum-told4 .given .1) x p)
+    let k = c .before .before .before .before in
+    let a = c .before .before .before .free2 in
+    let b = c .before .free3 in
+    free-two _ _ _ _ _ (a .result) (b .result) (c .either .result) (c .before .before .skip .ensures)
+    (a .ensures) (b .ensures) (c .either .ensures) (operands t (k .before .before) Two (k .enum-told4 .given .1) x p)
 
 free-returns-7 : (t : ℕ) → free-lts.Need-returns-7 (callees t) (free-at t) free.Post
 free-returns-7 t c = λ x p.
-    let v = c .before .before .before .before .before .before .v2 .given in
-    free-binding _ _ _ _ (v .0 .0) _ (c .before .before .free5 .result) (c .before .before .before .free4 .result) (c .either2 .result) (c .before .before .before .before .skip2 .ensures) (c .before .before .free5 .ensures) (c .before .before .before .free4 .ensures)
-    (rw (c .before .with2 .ensures) at (c .either2 .ensures)) (operands t (c .before .before .before .before .before .before .before .before) (Binding (v .0 .0)) (v .1) x p)
+    let k = c .before .before .before .before .before .before in
+    let v = k .v2 .given in
+    let a = c .before .before .free5 in
+    let b = c .before .before .before .free4 in
+    free-binding _ _ _ _ (v .0 .0) _ (a .result) (b .result) (c .either2 .result)
+    (c .before .before .before .before .skip2 .ensures) (a .ensures) (b .ensures)
+    (rw (c .before .with2 .ensures) at (c .either2 .ensures))
+    (operands t (k .before .before) (Binding (v .0 .0)) (v .1) x p)
 
 free-returns-8 : (t : ℕ) → free-lts.Need-returns-8 (callees t) (free-at t) free.Post
 free-returns-8 t c = λ x p.
-    free-three _ _ _ _ _ _ (c .before .before .before .before .free6 .result) (c .before .before .before .free7 .result) (c .before .free8 .result)
-    (c .before .before .either3 .result) (c .either4 .result) (c .before .before .before .before .before .before .skip3 .ensures) (c .before .before .before .before .before .skip4 .ensures)
-    (c .before .before .before .before .free6 .ensures) (c .before .before .before .free7 .ensures) (c .before .free8 .ensures)
-    (c .before .before .either3 .ensures) (c .either4 .ensures)
-    (operands t (c .before .before .before .before .before .before .before .before .before) Three (c .before .before .before .before .before .before .before .enum-told5 .given .1) x p)
+    let k = c .before .before .before .before .before .before .before in
+    let q = c .before .before .before .before .free6 in
+    let a = c .before .before .before .free7 in
+    let b = c .before .free8 in
+    let m = c .before .before .either3 in
+    free-three _ _ _ _ _ _ (q .result) (a .result) (b .result) (m .result) (c .either4 .result)
+    (c .before .before .before .before .before .before .skip3 .ensures)
+    (c .before .before .before .before .before .skip4 .ensures)
+    (q .ensures) (a .ensures) (b .ensures) (m .ensures) (c .either4 .ensures)
+    (operands t (k .before .before) Three (k .enum-told5 .given .1) x p)
 
 pub +free-spec : {M : Type 1} → statement M
 +free-spec = close μ-free λ t. free-lts.spec (callees t)

@@ -98,6 +98,20 @@ three-callees t = (
 abbrev two-callees : ℕ → two-operands-lts.Claims
 two-callees t = (operand-below t, operand.Post)
 
+-- where the record and its operands are known, and where the function starts
+abbrev Known : ℕ → Type 0
+Known t = operand-lts.After-following (operand-callees t) (operand-at t) operand.Post
+
+abbrev Start : ℕ → Type 0
+Start t = operand-lts.Start (operand-callees t) (operand-at t) operand.Post
+
+abbrev start : (t : ℕ) → Known t → Start t
+start t c = c .before .before .before .before .before .before .before .before
+
+-- one level less is left
+less : (t : ℕ) (c : Known t) → 3 * (start t c .args .depth - 1) + 2 < t
+less t c = omega (arith, start t c .pre .0, c .before .before .if1 .left)
+
 operand-read-requires : (t : ℕ) → operand-lts.Need-read-requires (operand-callees t) (operand-at t) operand.Post
 operand-read-requires t c κs = search needs
 
@@ -112,7 +126,8 @@ unfolding walked
 operand-returns t c =
     let a = c .before .before .before .before .args in
     let r = c .before .before .read in
-    walk-unsound (a .query .now) (a .at) (r .result) (r .ensures .means) (a .depth) (a .flags) (a .n) (c .enum-told .given .1)
+    walk-unsound (a .query .now) (a .at) (r .result) (r .ensures .means) (a .depth) (a .flags) (a .n)
+    (c .enum-told .given .1)
 
 operand-returns-2 : (t : ℕ) → operand-lts.Need-returns-2 (operand-callees t) (operand-at t) operand.Post
 unfolding walked
@@ -138,7 +153,8 @@ operand-sub-left t c = omega arith
 operand-add-m : (t : ℕ) → operand-lts.Need-add-m (operand-callees t) (operand-at t) operand.Post
 operand-add-m t c = omega arith
 
-operand-following-requires : (t : ℕ) → operand-lts.Need-following-requires (operand-callees t) (operand-at t) operand.Post
+operand-following-requires :
+    (t : ℕ) → operand-lts.Need-following-requires (operand-callees t) (operand-at t) operand.Post
 operand-following-requires t c κs = search needs
 
 operand-enum-told-2 : (t : ℕ) → operand-lts.Need-enum-told-2 (operand-callees t) (operand-at t) operand.Post
@@ -154,13 +170,14 @@ operand-enum-told-3 : (t : ℕ) → operand-lts.Need-enum-told-3 (operand-callee
 operand-enum-told-3 t c = search needs
 
 operand-operand-requires : (t : ℕ) → operand-lts.Need-operand-requires (operand-callees t) (operand-at t) operand.Post
-operand-operand-requires t c κs = omega (arith, c .before .before .before .before .before .before .before .before .before .before .pre .0, c .before .before .before .before .if1 .left)
+operand-operand-requires t c κs = omega (arith, less t (c .before .before))
 
 operand-enum-told-4 : (t : ℕ) → operand-lts.Need-enum-told-4 (operand-callees t) (operand-at t) operand.Post
 operand-enum-told-4 t c = search needs
 
-operand-two-operands-requires : (t : ℕ) → operand-lts.Need-two-operands-requires (operand-callees t) (operand-at t) operand.Post
-operand-two-operands-requires t c κs = omega (arith, c .before .before .before .before .before .before .before .before .before .before .pre .0, c .before .before .before .before .if1 .left)
+operand-two-operands-requires :
+    (t : ℕ) → operand-lts.Need-two-operands-requires (operand-callees t) (operand-at t) operand.Post
+operand-two-operands-requires t c κs = omega (arith, less t (c .before .before))
 
 operand-enum-known-v-2 : (t : ℕ) → operand-lts.Need-enum-known-v-2 (operand-callees t) (operand-at t) operand.Post
 operand-enum-known-v-2 t c = search needs
@@ -168,25 +185,26 @@ operand-enum-known-v-2 t c = search needs
 operand-with-requires : (t : ℕ) → operand-lts.Need-with-requires (operand-callees t) (operand-at t) operand.Post
 operand-with-requires t c κs = search needs
 
-operand-two-operands-requires-2 : (t : ℕ) → operand-lts.Need-two-operands-requires-2 (operand-callees t) (operand-at t) operand.Post
-operand-two-operands-requires-2 t c κs = omega (arith, c .before .before .before .before .before .before .before .before .before .before .before .before .pre .0, c .before .before .before .before .before .before .if1 .left)
+operand-two-operands-requires-2 :
+    (t : ℕ) → operand-lts.Need-two-operands-requires-2 (operand-callees t) (operand-at t) operand.Post
+operand-two-operands-requires-2 t c κs = omega (arith, less t (c .before .before .before .before))
 
 operand-enum-told-5 : (t : ℕ) → operand-lts.Need-enum-told-5 (operand-callees t) (operand-at t) operand.Post
 operand-enum-told-5 t c = search needs
 
-operand-three-operands-requires : (t : ℕ) → operand-lts.Need-three-operands-requires (operand-callees t) (operand-at t) operand.Post
-operand-three-operands-requires t c κs = omega (arith, c .before .before .before .before .before .before .before .before .before .before .pre .0, c .before .before .before .before .if1 .left)
+operand-three-operands-requires :
+    (t : ℕ) → operand-lts.Need-three-operands-requires (operand-callees t) (operand-at t) operand.Post
+operand-three-operands-requires t c κs = omega (arith, less t (c .before .before))
 
 -- the record's operands decide what the definition does
 following-steps :
-    (t : ℕ) (c : operand-lts.After-following (operand-callees t) (operand-at t) operand.Post) (p : Operands) →
-    c .following .result ≡ p →
-    steps
-    (walk (c .before .before .before .before .before .before .before .before .args .depth - 1) (c .before .before .before .before .before .before .before .before .args .query .now)) (c .before .before .before .before .before .before .before .before .args .flags) (c .before .before .before .before .before .before .before .before .args .at) (c .before .before .before .before .before .before .before .before .args .n + 1)
-    (c .before .before .before .before .found .given .0 .0 .next) p ≡
-    walk (c .before .before .before .before .before .before .before .before .args .depth) (c .before .before .before .before .before .before .before .before .args .query .now) (c .before .before .before .before .before .before .before .before .args .flags) (c .before .before .before .before .before .before .before .before .args .n) (c .before .before .before .before .before .before .before .before .args .at)
+    (t : ℕ) (c : Known t) (p : Operands) → c .following .result ≡ p →
+    steps (walk (start t c .args .depth - 1) (start t c .args .query .now)) (start t c .args .flags)
+    (start t c .args .at) (start t c .args .n + 1) (c .before .before .before .before .found .given .0 .0 .next) p ≡
+    walk (start t c .args .depth) (start t c .args .query .now) (start t c .args .flags) (start t c .args .n)
+    (start t c .args .at)
 following-steps t c p e =
-    let a = c .before .before .before .before .before .before .before .before .args in
+    let a = start t c .args in
     let r = c .before .before .before .before .before .before .read in
     let f = c .before .before .before .before .found .given in
     walk-sound (a .query .now) (a .at) (r .result) (r .ensures .means) (a .depth) (a .flags) (a .n) (f .0 .0) (f .1)
@@ -198,52 +216,68 @@ operand-returns-4 t c = following-steps t (c .before .before) None (c .enum-told
 
 operand-returns-5 : (t : ℕ) → operand-lts.Need-returns-5 (operand-callees t) (operand-at t) operand.Post
 unfolding steps
-operand-returns-5 t c = c .lookup .ensures ∙ following-steps t (c .before .before .before .before) (Variable (c .before .before .v .given .0 .0)) (c .before .before .v .given .1)
+operand-returns-5 t c =
+    let v = c .before .before .v .given in
+    c .lookup .ensures ∙ following-steps t (c .before .before .before .before) (Variable (v .0 .0)) (v .1)
 
 operand-returns-6 : (t : ℕ) → operand-lts.Need-returns-6 (operand-callees t) (operand-at t) operand.Post
 unfolding steps
-operand-returns-6 t c = c .operand .ensures ∙ following-steps t (c .before .before .before) One (c .before .enum-told3 .given .1)
+operand-returns-6 t c =
+    c .operand .ensures
+    ∙ following-steps t (c .before .before .before) One (c .before .enum-told3 .given .1)
 
 operand-returns-7 : (t : ℕ) → operand-lts.Need-returns-7 (operand-callees t) (operand-at t) operand.Post
 unfolding steps
-operand-returns-7 t c = c .two-operands .ensures ∙ following-steps t (c .before .before .before) Two (c .before .enum-told4 .given .1)
+operand-returns-7 t c =
+    c .two-operands .ensures
+    ∙ following-steps t (c .before .before .before) Two (c .before .enum-told4 .given .1)
 
 operand-returns-8 : (t : ℕ) → operand-lts.Need-returns-8 (operand-callees t) (operand-at t) operand.Post
 unfolding steps
 operand-returns-8 t c =
     let v = c .before .before .before .v2 .given in
-    (rw (c .before .with .ensures) at (c .two-operands2 .ensures)) ∙ following-steps t (c .before .before .before .before .before) (Binding (v .0 .0)) (v .1)
+    (rw (c .before .with .ensures) at (c .two-operands2 .ensures))
+    ∙ following-steps t (c .before .before .before .before .before) (Binding (v .0 .0)) (v .1)
 
 operand-returns-9 : (t : ℕ) → operand-lts.Need-returns-9 (operand-callees t) (operand-at t) operand.Post
 unfolding steps
-operand-returns-9 t c = c .three-operands .ensures ∙ following-steps t (c .before .before .before) Three (c .before .enum-told5 .given .1)
+operand-returns-9 t c =
+    c .three-operands .ensures
+    ∙ following-steps t (c .before .before .before) Three (c .before .enum-told5 .given .1)
 
-three-operands-operand-requires : (t : ℕ) → three-operands-lts.Need-operand-requires (three-callees t) (three-operands-at t) three-operands.Post
+three-operands-operand-requires :
+    (t : ℕ) → three-operands-lts.Need-operand-requires (three-callees t) (three-operands-at t) three-operands.Post
 three-operands-operand-requires t c κs = omega arith
 
-three-operands-enum-known-first : (t : ℕ) → three-operands-lts.Need-enum-known-first (three-callees t) (three-operands-at t) three-operands.Post
+three-operands-enum-known-first :
+    (t : ℕ) → three-operands-lts.Need-enum-known-first (three-callees t) (three-operands-at t) three-operands.Post
 three-operands-enum-known-first t c = search needs
 
-three-operands-returns : (t : ℕ) → three-operands-lts.Need-returns (three-callees t) (three-operands-at t) three-operands.Post
+three-operands-returns :
+    (t : ℕ) → three-operands-lts.Need-returns (three-callees t) (three-operands-at t) three-operands.Post
 unfolding three
 three-operands-returns t c =
     let r = c .before .operand in
     walk-stopped (r .result) _ _ (r .ensures) (c .match .keys2)
 
-three-operands-two-operands-requires : (t : ℕ) → three-operands-lts.Need-two-operands-requires (three-callees t) (three-operands-at t) three-operands.Post
+three-operands-two-operands-requires :
+    (t : ℕ) → three-operands-lts.Need-two-operands-requires (three-callees t) (three-operands-at t) three-operands.Post
 three-operands-two-operands-requires t c κs = omega arith
 
-three-operands-returns-2 : (t : ℕ) → three-operands-lts.Need-returns-2 (three-callees t) (three-operands-at t) three-operands.Post
+three-operands-returns-2 :
+    (t : ℕ) → three-operands-lts.Need-returns-2 (three-callees t) (three-operands-at t) three-operands.Post
 unfolding three
 three-operands-returns-2 t c =
     let r = c .before .before .before .before .operand in
     let x = c .before .before .first .given in
     c .two-operands .ensures ∙ walk-passed (r .result) _ _ (r .ensures) (x .0 .0) (x .0 .1 .0) (x .1)
 
-two-operands-operand-requires : (t : ℕ) → two-operands-lts.Need-operand-requires (two-callees t) (two-operands-at t) two-operands.Post
+two-operands-operand-requires :
+    (t : ℕ) → two-operands-lts.Need-operand-requires (two-callees t) (two-operands-at t) two-operands.Post
 two-operands-operand-requires t c κs = omega arith
 
-two-operands-enum-known-first : (t : ℕ) → two-operands-lts.Need-enum-known-first (two-callees t) (two-operands-at t) two-operands.Post
+two-operands-enum-known-first :
+    (t : ℕ) → two-operands-lts.Need-enum-known-first (two-callees t) (two-operands-at t) two-operands.Post
 two-operands-enum-known-first t c = search needs
 
 two-operands-returns :
@@ -257,7 +291,8 @@ two-operands-returns t c =
     let r = c .before .operand in
     walk-stopped (r .result) _ _ (r .ensures) (c .match .keys2)
 
-two-operands-operand-requires-2 : (t : ℕ) → two-operands-lts.Need-operand-requires-2 (two-callees t) (two-operands-at t) two-operands.Post
+two-operands-operand-requires-2 :
+    (t : ℕ) → two-operands-lts.Need-operand-requires-2 (two-callees t) (two-operands-at t) two-operands.Post
 two-operands-operand-requires-2 t c κs = omega arith
 
 two-operands-returns-2 :

@@ -40,8 +40,24 @@ callees t = (
   skip.Post,
 )
 
+-- where the record and its operands are known, and where the function starts
+abbrev Known : ℕ → Type 0
+Known t = skip-lts.After-following (callees t) (skip-at t) skip.Post
+
+abbrev Start : ℕ → Type 0
+Start t = skip-lts.Start (callees t) (skip-at t) skip.Post
+
+abbrev start : (t : ℕ) → Known t → Start t
+start t c = c .before .before .before .before .before .before .before
+
+-- one level less is left
+less : (t : ℕ) (c : Known t) → start t c .args .depth - 1 < t
+less t c = omega (arith, start t c .pre .0, c .before .before .before .before .before .if1 .left)
+
 skip-returns : (t : ℕ) → skip-lts.Need-returns (callees t) (skip-at t) skip.Post
-skip-returns t c = λ x p. absurd (parse-deep (c .before .before .args .query .now) (c .before .before .args .at) (c .before .before .args .depth) (c .if1 .taken) x p)
+skip-returns t c =
+    let a = c .before .before .args in
+    λ x p. absurd (parse-deep (a .query .now) (a .at) (a .depth) (c .if1 .taken) x p)
 
 skip-read-requires : (t : ℕ) → skip-lts.Need-read-requires (callees t) (skip-at t) skip.Post
 skip-read-requires t c κs = search needs
@@ -75,45 +91,46 @@ skip-enum-told-4 : (t : ℕ) → skip-lts.Need-enum-told-4 (callees t) (skip-at 
 skip-enum-told-4 t c = search needs
 
 skip-skip-requires : (t : ℕ) → skip-lts.Need-skip-requires (callees t) (skip-at t) skip.Post
-skip-skip-requires t c κs = omega (arith, c .before .before .before .before .before .before .before .before .before .pre .0, c .before .before .before .before .before .before .before .if1 .left)
+skip-skip-requires t c κs = omega (arith, less t (c .before .before))
 
 skip-enum-told-5 : (t : ℕ) → skip-lts.Need-enum-told-5 (callees t) (skip-at t) skip.Post
 skip-enum-told-5 t c = search needs
 
 skip-skip-requires-2 : (t : ℕ) → skip-lts.Need-skip-requires-2 (callees t) (skip-at t) skip.Post
-skip-skip-requires-2 t c κs = omega (arith, c .before .before .before .before .before .before .before .before .before .pre .0, c .before .before .before .before .before .before .before .if1 .left)
+skip-skip-requires-2 t c κs = omega (arith, less t (c .before .before))
 
 skip-skip-requires-3 : (t : ℕ) → skip-lts.Need-skip-requires-3 (callees t) (skip-at t) skip.Post
-skip-skip-requires-3 t c κs = omega (arith, c .before .before .before .before .before .before .before .before .before .before .pre .0, c .before .before .before .before .before .before .before .before .if1 .left)
+skip-skip-requires-3 t c κs = omega (arith, less t (c .before .before .before))
 
 skip-enum-told-6 : (t : ℕ) → skip-lts.Need-enum-told-6 (callees t) (skip-at t) skip.Post
 skip-enum-told-6 t c = search needs
 
 skip-skip-requires-4 : (t : ℕ) → skip-lts.Need-skip-requires-4 (callees t) (skip-at t) skip.Post
-skip-skip-requires-4 t c κs = omega (arith, c .before .before .before .before .before .before .before .before .before .pre .0, c .before .before .before .before .before .before .before .if1 .left)
+skip-skip-requires-4 t c κs = omega (arith, less t (c .before .before))
 
 skip-skip-requires-5 : (t : ℕ) → skip-lts.Need-skip-requires-5 (callees t) (skip-at t) skip.Post
-skip-skip-requires-5 t c κs = omega (arith, c .before .before .before .before .before .before .before .before .before .before .pre .0, c .before .before .before .before .before .before .before .before .if1 .left)
+skip-skip-requires-5 t c κs = omega (arith, less t (c .before .before .before))
 
 skip-enum-told-7 : (t : ℕ) → skip-lts.Need-enum-told-7 (callees t) (skip-at t) skip.Post
 skip-enum-told-7 t c = search needs
 
 skip-skip-requires-6 : (t : ℕ) → skip-lts.Need-skip-requires-6 (callees t) (skip-at t) skip.Post
-skip-skip-requires-6 t c κs = omega (arith, c .before .before .before .before .before .before .before .before .before .pre .0, c .before .before .before .before .before .before .before .if1 .left)
+skip-skip-requires-6 t c κs = omega (arith, less t (c .before .before))
 
 skip-skip-requires-7 : (t : ℕ) → skip-lts.Need-skip-requires-7 (callees t) (skip-at t) skip.Post
-skip-skip-requires-7 t c κs = omega (arith, c .before .before .before .before .before .before .before .before .before .before .pre .0, c .before .before .before .before .before .before .before .before .if1 .left)
+skip-skip-requires-7 t c κs = omega (arith, less t (c .before .before .before))
 
 skip-skip-requires-8 : (t : ℕ) → skip-lts.Need-skip-requires-8 (callees t) (skip-at t) skip.Post
-skip-skip-requires-8 t c κs = omega (arith, c .before .before .before .before .before .before .before .before .before .before .before .pre .0, c .before .before .before .before .before .before .before .before .before .if1 .left)
+skip-skip-requires-8 t c κs = omega (arith, less t (c .before .before .before .before))
 
 -- the operands of the record, where there is a tree
 operands :
-    (t : ℕ) (c : skip-lts.After-following (callees t) (skip-at t) skip.Post) (p : Operands) → c .following .result ≡ p →
-    (x : Query × ℕ) → parse (c .before .before .before .before .before .before .before .args .depth) (c .before .before .before .before .before .before .before .args .query .now) (c .before .before .before .before .before .before .before .args .at) ≡ gives x →
-    Spans (parse (c .before .before .before .before .before .before .before .args .depth - 1) (c .before .before .before .before .before .before .before .args .query .now)) (c .before .before .found .given .0 .0 .next) p (x .0) (x .1)
+    (t : ℕ) (c : Known t) (p : Operands) → c .following .result ≡ p → (x : Query × ℕ) →
+    parse (start t c .args .depth) (start t c .args .query .now) (start t c .args .at) ≡ gives x →
+    Spans (parse (start t c .args .depth - 1) (start t c .args .query .now))
+    (c .before .before .found .given .0 .0 .next) p (x .0) (x .1)
 operands t c p e =
-    let a = c .before .before .before .before .before .before .before .args in
+    let a = start t c .args in
     let r = c .before .before .before .before .read in
     let f = c .before .before .found .given in
     parse-sound (a .query .now) (a .at) (r .result) (r .ensures) (a .depth) (f .0 .0) (c .following .result) p (f .1)
@@ -128,7 +145,9 @@ unfolding Spans
 skip-returns-4 t c = λ x p. operands t (c .before .before) (Variable _) (c .enum-told3 .given .1) x p .0
 
 skip-returns-5 : (t : ℕ) → skip-lts.Need-returns-5 (callees t) (skip-at t) skip.Post
-skip-returns-5 t c = λ x p. past-one _ _ _ _ _ (c .skip .ensures) (operands t (c .before .before .before) One (c .before .enum-told4 .given .1) x p)
+skip-returns-5 t c = λ x p.
+    past-one _ _ _ _ _ (c .skip .ensures)
+    (operands t (c .before .before .before) One (c .before .enum-told4 .given .1) x p)
 
 skip-returns-6 : (t : ℕ) → skip-lts.Need-returns-6 (callees t) (skip-at t) skip.Post
 skip-returns-6 t c = λ x p.

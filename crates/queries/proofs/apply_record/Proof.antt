@@ -33,7 +33,9 @@ room c =
     let f = c .before .fits2 in
     fits-room (f .result) (a .query .now) (a .at) 3 (f .ensures) (c .if1 .left)
 
-there : (c : tie.Else1) → fits (c .before .before .before .args .query .now) (c .before .before .before .args .at) 3 ≡ true
+there :
+    (c : tie.Else1) →
+    fits (c .before .before .before .args .query .now) (c .before .before .before .args .at) 3 ≡ true
 there c =
     let a = c .before .before .before .args in
     let f = c .before .fits2 in
@@ -70,42 +72,48 @@ returns-2 : tie.Need-returns-2
 unfolding applyRecord functionOf attempt recordOf
 returns-2 c =
     let a = c .before .before .before .before .before .before .args in
-    means-sized (a .query .now) (a .at) 3 _ (c .sound .result) (Record.Apply Function.Add) (c .sound .ensures) (there (c .before .before .before)) tt
+    means-sized (a .query .now) (a .at) 3 _ (c .sound .result) (Record.Apply Function.Add)
+    (c .sound .ensures) (there (c .before .before .before)) tt
     (rw (c .before .match .keys1))
 
 returns-3 : tie.Need-returns-3
 unfolding applyRecord functionOf attempt recordOf
 returns-3 c =
     let a = c .before .before .before .before .before .before .args in
-    means-sized (a .query .now) (a .at) 3 _ (c .sound2 .result) (Record.Apply Function.Subtract) (c .sound2 .ensures) (there (c .before .before .before)) tt
+    means-sized (a .query .now) (a .at) 3 _ (c .sound2 .result) (Record.Apply Function.Subtract)
+    (c .sound2 .ensures) (there (c .before .before .before)) tt
     (rw (c .before .match .keys2))
 
 returns-4 : tie.Need-returns-4
 unfolding applyRecord functionOf attempt recordOf
 returns-4 c =
     let a = c .before .before .before .before .before .before .args in
-    means-sized (a .query .now) (a .at) 3 _ (c .sound3 .result) (Record.Apply Function.Multiply) (c .sound3 .ensures) (there (c .before .before .before)) tt
+    means-sized (a .query .now) (a .at) 3 _ (c .sound3 .result) (Record.Apply Function.Multiply)
+    (c .sound3 .ensures) (there (c .before .before .before)) tt
     (rw (c .before .match .keys3))
 
 returns-5 : tie.Need-returns-5
 unfolding applyRecord functionOf attempt recordOf
 returns-5 c =
     let a = c .before .before .before .before .before .before .args in
-    means-sized (a .query .now) (a .at) 3 _ (c .sound4 .result) (Record.Apply Function.Divide) (c .sound4 .ensures) (there (c .before .before .before)) tt
+    means-sized (a .query .now) (a .at) 3 _ (c .sound4 .result) (Record.Apply Function.Divide)
+    (c .sound4 .ensures) (there (c .before .before .before)) tt
     (rw (c .before .match .keys4))
 
 returns-6 : tie.Need-returns-6
 unfolding applyRecord functionOf attempt recordOf
 returns-6 c =
     let a = c .before .before .before .before .before .before .args in
-    means-sized (a .query .now) (a .at) 3 _ (c .sound5 .result) (Record.Apply Function.Equal) (c .sound5 .ensures) (there (c .before .before .before)) tt
+    means-sized (a .query .now) (a .at) 3 _ (c .sound5 .result) (Record.Apply Function.Equal)
+    (c .sound5 .ensures) (there (c .before .before .before)) tt
     (rw (c .before .match .keys5))
 
 returns-7 : tie.Need-returns-7
 unfolding applyRecord functionOf attempt recordOf
 returns-7 c =
     let a = c .before .before .before .before .before .before .args in
-    means-sized (a .query .now) (a .at) 3 _ (c .sound6 .result) (Record.Apply Function.Less) (c .sound6 .ensures) (there (c .before .before .before)) tt
+    means-sized (a .query .now) (a .at) 3 _ (c .sound6 .result) (Record.Apply Function.Less)
+    (c .sound6 .ensures) (there (c .before .before .before)) tt
     (rw (c .before .match .keys6))
 
 returns-8 : tie.Need-returns-8

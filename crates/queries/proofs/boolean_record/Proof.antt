@@ -34,7 +34,9 @@ room c =
     let f = c .before .fits2 in
     fits-room (f .result) (a .query .now) (a .at) 3 (f .ensures) (c .if1 .left)
 
-there : (c : tie.Else1) → fits (c .before .before .before .args .query .now) (c .before .before .before .args .at) 3 ≡ true
+there :
+    (c : tie.Else1) →
+    fits (c .before .before .before .args .query .now) (c .before .before .before .args .at) 3 ≡ true
 there c =
     let a = c .before .before .before .args in
     let f = c .before .fits2 in
@@ -59,14 +61,16 @@ returns-2 : tie.Need-returns-2
 unfolding booleanRecord booleanOf attempt recordOf cellOf
 returns-2 c =
     let a = c .before .before .before .before .before .before .args in
-    means-sized (a .query .now) (a .at) 3 _ (c .sound .result) (Record.Literal (Item.Truth false)) (c .sound .ensures) (there (c .before .before .before)) tt
+    means-sized (a .query .now) (a .at) 3 _ (c .sound .result) (Record.Literal (Item.Truth false))
+    (c .sound .ensures) (there (c .before .before .before)) tt
     (rw (c .before .match .keys1))
 
 returns-3 : tie.Need-returns-3
 unfolding booleanRecord booleanOf attempt recordOf cellOf
 returns-3 c =
     let a = c .before .before .before .before .before .before .args in
-    means-sized (a .query .now) (a .at) 3 _ (c .sound2 .result) (Record.Literal (Item.Truth true)) (c .sound2 .ensures) (there (c .before .before .before)) tt
+    means-sized (a .query .now) (a .at) 3 _ (c .sound2 .result) (Record.Literal (Item.Truth true))
+    (c .sound2 .ensures) (there (c .before .before .before)) tt
     (rw (c .before .match .keys2))
 
 returns-4 : tie.Need-returns-4

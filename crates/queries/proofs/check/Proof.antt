@@ -18,7 +18,8 @@ returns : tie.Need-returns
 returns c =
     let w = c .before .before .operand in
     c .concluded .ensures
-    ∙ call-stopped (c .before .before .before .before .args .query .now) (w .result) (w .ensures) (c .before .match .keys2)
+    ∙ call-stopped (c .before .before .before .before .args .query .now) (w .result) (w .ensures)
+    (c .before .match .keys2)
 
 returns-2 : tie.Need-returns-2
 returns-2 c =

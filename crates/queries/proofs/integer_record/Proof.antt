@@ -38,7 +38,9 @@ room c =
     let f = c .before .fits2 in
     fits-room (f .result) (a .query .now) (a .at) 6 (f .ensures) (c .if1 .left)
 
-there : (c : tie.Else1) → fits (c .before .before .before .args .query .now) (c .before .before .before .args .at) 6 ≡ true
+there :
+    (c : tie.Else1) →
+    fits (c .before .before .before .args .query .now) (c .before .before .before .args .at) 6 ≡ true
 there c =
     let a = c .before .before .before .args in
     let f = c .before .fits2 in
@@ -61,7 +63,8 @@ unfolding integerRecord recordOf cellOf
 returns-2 c =
     let a = c .before .before .before .before .before .args in
     let z = c .before .int4 in
-    means-sized (a .query .now) (a .at) 6 _ (c .sound .result) (Record.Literal (Item.Integer (toZ w32 (ofZ w32 (z .result)))))
+    means-sized (a .query .now) (a .at) 6 _ (c .sound .result)
+    (Record.Literal (Item.Integer (toZ w32 (ofZ w32 (z .result)))))
     (c .sound .ensures) (there (c .before .before)) tt
     (ap (λ (i : ℤ). gives (literal i)) (sym (z .ensures) ∙ sym (toZ-ofZ w32 (z .result) (record { sfits = z .ok }))))
 

@@ -33,7 +33,9 @@ room c =
     let f = c .before .fits2 in
     fits-room (f .result) (a .query .now) (a .at) 2 (f .ensures) (c .if1 .left)
 
-there : (c : tie.Else1) → fits (c .before .before .before .args .query .now) (c .before .before .before .args .at) 2 ≡ true
+there :
+    (c : tie.Else1) →
+    fits (c .before .before .before .args .query .now) (c .before .before .before .args .at) 2 ≡ true
 there c =
     let a = c .before .before .before .args in
     let f = c .before .fits2 in
@@ -89,7 +91,8 @@ unfolding Query.recordOf integerRecord
 returns-2 c =
     let a = c .before .before .before .before .before .before .args in
     let m = c .before .before .word2 in
-    means-mark (a .query .now) (a .at) (c .integer-record .result) (m .result) 0x514C (m .ensures .0) (c .before .match .keys1)
+    means-mark (a .query .now) (a .at) (c .integer-record .result) (m .result) 0x514C
+    (m .ensures .0) (c .before .match .keys1)
     (c .integer-record .ensures)
 
 returns-3 : tie.Need-returns-3
@@ -97,7 +100,8 @@ unfolding Query.recordOf booleanRecord
 returns-3 c =
     let a = c .before .before .before .before .before .before .args in
     let m = c .before .before .word2 in
-    means-mark (a .query .now) (a .at) (c .boolean-record .result) (m .result) 0x5142 (m .ensures .0) (c .before .match .keys2)
+    means-mark (a .query .now) (a .at) (c .boolean-record .result) (m .result) 0x5142
+    (m .ensures .0) (c .before .match .keys2)
     (c .boolean-record .ensures)
 
 returns-4 : tie.Need-returns-4
@@ -106,14 +110,16 @@ returns-4 c =
     let a = c .before .before .before .before .before .before .args in
     let m = c .before .before .word2 in
     means-mark (a .query .now) (a .at) (c .sound .result) (m .result) 0x5145 (m .ensures .0) (c .before .match .keys3)
-    (means-sized (a .query .now) (a .at) 2 _ (c .sound .result) Record.Empty (c .sound .ensures) (there (c .before .before .before)) tt refl)
+    (means-sized (a .query .now) (a .at) 2 _ (c .sound .result) Record.Empty
+    (c .sound .ensures) (there (c .before .before .before)) tt refl)
 
 returns-5 : tie.Need-returns-5
 unfolding Query.recordOf rootRecord
 returns-5 c =
     let a = c .before .before .before .before .before .before .args in
     let m = c .before .before .word2 in
-    means-mark (a .query .now) (a .at) (c .root-record .result) (m .result) 0x5152 (m .ensures .0) (c .before .match .keys4)
+    means-mark (a .query .now) (a .at) (c .root-record .result) (m .result) 0x5152
+    (m .ensures .0) (c .before .match .keys4)
     (c .root-record .ensures)
 
 returns-6 : tie.Need-returns-6
@@ -121,7 +127,8 @@ unfolding Query.recordOf variableRecord
 returns-6 c =
     let a = c .before .before .before .before .before .before .args in
     let m = c .before .before .word2 in
-    means-mark (a .query .now) (a .at) (c .variable-record .result) (m .result) 0x5156 (m .ensures .0) (c .before .match .keys5)
+    means-mark (a .query .now) (a .at) (c .variable-record .result) (m .result) 0x5156
+    (m .ensures .0) (c .before .match .keys5)
     (c .variable-record .ensures)
 
 returns-7 : tie.Need-returns-7
@@ -130,14 +137,16 @@ returns-7 c =
     let a = c .before .before .before .before .before .before .args in
     let m = c .before .before .word2 in
     means-mark (a .query .now) (a .at) (c .sound2 .result) (m .result) 0x5153 (m .ensures .0) (c .before .match .keys6)
-    (means-sized (a .query .now) (a .at) 2 _ (c .sound2 .result) Record.Sequence (c .sound2 .ensures) (there (c .before .before .before)) tt refl)
+    (means-sized (a .query .now) (a .at) 2 _ (c .sound2 .result) Record.Sequence
+    (c .sound2 .ensures) (there (c .before .before .before)) tt refl)
 
 returns-8 : tie.Need-returns-8
 unfolding Query.recordOf variableRecord
 returns-8 c =
     let a = c .before .before .before .before .before .before .args in
     let m = c .before .before .word2 in
-    means-mark (a .query .now) (a .at) (c .let-record .result) (m .result) 0x5154 (m .ensures .0) (c .before .match .keys7)
+    means-mark (a .query .now) (a .at) (c .let-record .result) (m .result) 0x5154
+    (m .ensures .0) (c .before .match .keys7)
     (c .let-record .ensures)
 
 returns-9 : tie.Need-returns-9
@@ -145,7 +154,8 @@ unfolding Query.recordOf variableRecord
 returns-9 c =
     let a = c .before .before .before .before .before .before .args in
     let m = c .before .before .word2 in
-    means-mark (a .query .now) (a .at) (c .for-record .result) (m .result) 0x5146 (m .ensures .0) (c .before .match .keys8)
+    means-mark (a .query .now) (a .at) (c .for-record .result) (m .result) 0x5146
+    (m .ensures .0) (c .before .match .keys8)
     (c .for-record .ensures)
 
 returns-10 : tie.Need-returns-10
@@ -154,14 +164,16 @@ returns-10 c =
     let a = c .before .before .before .before .before .before .args in
     let m = c .before .before .word2 in
     means-mark (a .query .now) (a .at) (c .sound3 .result) (m .result) 0x5149 (m .ensures .0) (c .before .match .keys9)
-    (means-sized (a .query .now) (a .at) 2 _ (c .sound3 .result) Record.If (c .sound3 .ensures) (there (c .before .before .before)) tt refl)
+    (means-sized (a .query .now) (a .at) 2 _ (c .sound3 .result) Record.If
+    (c .sound3 .ensures) (there (c .before .before .before)) tt refl)
 
 returns-11 : tie.Need-returns-11
 unfolding Query.recordOf applyRecord
 returns-11 c =
     let a = c .before .before .before .before .before .before .args in
     let m = c .before .before .word2 in
-    means-mark (a .query .now) (a .at) (c .apply-record .result) (m .result) 0x514F (m .ensures .0) (c .before .match .keys10)
+    means-mark (a .query .now) (a .at) (c .apply-record .result) (m .result) 0x514F
+    (m .ensures .0) (c .before .match .keys10)
     (c .apply-record .ensures)
 
 returns-12 : tie.Need-returns-12
@@ -170,7 +182,8 @@ returns-12 c =
     let a = c .before .before .before .before .before .before .args in
     let m = c .before .before .word2 in
     means-mark (a .query .now) (a .at) (c .sound4 .result) (m .result) 0x5143 (m .ensures .0) (c .before .match .keys11)
-    (means-sized (a .query .now) (a .at) 2 _ (c .sound4 .result) Record.Count (c .sound4 .ensures) (there (c .before .before .before)) tt refl)
+    (means-sized (a .query .now) (a .at) 2 _ (c .sound4 .result) Record.Count
+    (c .sound4 .ensures) (there (c .before .before .before)) tt refl)
 
 returns-13 : tie.Need-returns-13
 unfolding Query.recordOf recordOf
@@ -178,14 +191,16 @@ returns-13 c =
     let a = c .before .before .before .before .before .before .args in
     let m = c .before .before .word2 in
     means-mark (a .query .now) (a .at) (c .sound5 .result) (m .result) 0x5144 (m .ensures .0) (c .before .match .keys12)
-    (means-sized (a .query .now) (a .at) 2 _ (c .sound5 .result) Record.Data (c .sound5 .ensures) (there (c .before .before .before)) tt refl)
+    (means-sized (a .query .now) (a .at) 2 _ (c .sound5 .result) Record.Data
+    (c .sound5 .ensures) (there (c .before .before .before)) tt refl)
 
 returns-14 : tie.Need-returns-14
 unfolding Query.recordOf stepRecord
 returns-14 c =
     let a = c .before .before .before .before .before .before .args in
     let m = c .before .before .word2 in
-    means-mark (a .query .now) (a .at) (c .step-record .result) (m .result) 0x5158 (m .ensures .0) (c .before .match .keys13)
+    means-mark (a .query .now) (a .at) (c .step-record .result) (m .result) 0x5158
+    (m .ensures .0) (c .before .match .keys13)
     (c .step-record .ensures)
 
 returns-15 : tie.Need-returns-15

@@ -32,7 +32,9 @@ room c =
     let f = c .before .fits2 in
     fits-room (f .result) (a .query .now) (a .at) 3 (f .ensures) (c .if1 .left)
 
-there : (c : tie.Else1) → fits (c .before .before .before .args .query .now) (c .before .before .before .args .at) 3 ≡ true
+there :
+    (c : tie.Else1) →
+    fits (c .before .before .before .args .query .now) (c .before .before .before .args .at) 3 ≡ true
 there c =
     let a = c .before .before .before .args in
     let f = c .before .fits2 in
@@ -47,10 +49,8 @@ add-byte c = omega (arith, room c)
 shared-slice-read-byte : tie.Need-shared-slice-read-byte
 shared-slice-read-byte c = omega (arith, room (c .before))
 
-cast-t11 : tie.Need-cast-t11
-cast-t11 c =
-    omega
-    (arith, c .before .shared-slice-known2 .given (c .before .before .before .before .before .args .at + 2))
+cast-k : tie.Need-cast-k
+cast-k c = omega (arith, c .shared-slice-known2 .given (c .before .before .before .before .args .at + 2))
 
 sound-requires : tie.Need-sound-requires
 sound-requires c κs = search needs
@@ -79,7 +79,7 @@ root-record-spec =
     add-next
     add-byte
     shared-slice-read-byte
-    cast-t11
+    cast-k
     sound-requires
     returns-2
     returns-3)

@@ -28,7 +28,9 @@ room c =
     let f = c .before .fits2 in
     fits-room (f .result) (a .query .now) (a .at) 6 (f .ensures) (c .if1 .left)
 
-there : (c : tie.Else1) → fits (c .before .before .before .args .query .now) (c .before .before .before .args .at) 6 ≡ true
+there :
+    (c : tie.Else1) →
+    fits (c .before .before .before .args .query .now) (c .before .before .before .args .at) 6 ≡ true
 there c =
     let a = c .before .before .before .args in
     let f = c .before .fits2 in

@@ -1,0 +1,5 @@
+pub mod Moves
+pub mod Leaving
+pub mod Applying
+pub mod Valuing
+pub mod Reaching

@@ -1,0 +1,75 @@
+-- What each record does with what its operands left (document 01, 'Query records', 'Room'): the clauses of `evaluate`, each as
+-- a function of its operands' outcomes.
+--     rooted w room at k  QR: the root of fragment k
+--     raised k o          the same items, where at least k stood
+--     pairing o f         two operands, the second worked out behind the items of the first; f its outcome
+--     joined p            QS: a's items, then b's
+--     kept p              QT: b's items
+--     applied w at f p    QO: a function of the two
+--     counted room at o   QC: the number of items
+--     valued w at o       QD: each item's value
+--     stepped w room at x t o     QX: a step
+--     Reaches doc n x t xs ms m   m says whether every one of xs is a node; ms are the marks of the nodes that the step reaches
+--     Valued w top n before after t    t says whether each of the n items from top on has a value; those values in its place
+use Prim.Native.Nat.{ℕ, _+_, max}
+use mathlib.Core.Path.{_≡_}
+use mathlib.Core.Bool.{Bool, true, false}
+use mathlib.Core.List.{List, [], _∷_, _++_, map}
+use lib.IntN.{ℤ, pos}
+use lib.ListN.{length, take}
+use Rattle.laws.specs.Rows.{row, laid}
+use Rattle.cells.specs.Cell.{nodeCell}
+use Rattle.cells.specs.declared.Axis.{Axis}
+use Rattle.cells.specs.declared.Function.{Function}
+use Rattle.cells.specs.declared.Test.{Test}
+use Rattle.meaning.specs.Attempt.{fails, gives, Work, done, work, trying}
+use Rattle.meaning.specs.Catalogue.{catalogueOf}
+use Rattle.meaning.specs.World.{World, step}
+use Rattle.meaning.specs.Meaning.{apply, values}
+use Rattle.meaning.specs.Counted.{Standing, stand, adding}
+use Rattle.steps.specs.declared.Marked.{Marked}
+use Rattle.steps.specs.declared.Marked.the-variants.{AllNodes, NotANode}
+use Rattle.steps.specs.Marks.{ranks}
+use Rattle.stack.specs.Stack.{Paired}
+
+unfoldable pub rooted : World → ℕ → ℕ → ℕ → Work Standing
+rooted w room at k = trying at (w .root k) (λ r. adding room at 0 (r ∷ []))
+
+unfoldable pub raised : ℕ → Work Standing → Work Standing
+raised k o = work o (λ t. stand (t .items) (max k (t .count)))
+
+unfoldable pub pairing : Work Standing → (Standing → Work Standing) → Work Paired
+pairing o f =
+    work o
+    (λ s. work (f s)
+    (λ t. done (record { first = s .items; second = t .items; count = max (s .count) (length (s .items) + t .count) })))
+
+unfoldable pub joined : Work Paired → Work Standing
+joined p = work p (λ d. stand (d .first ++ d .second) (d .count))
+
+unfoldable pub kept : Work Paired → Work Standing
+kept p = work p (λ d. stand (d .second) (d .count))
+
+unfoldable pub applied : World → ℕ → Function → Work Paired → Work Standing
+applied w at f p = work p (λ d. trying at (apply w f (d .first) (d .second)) (λ xs. stand xs (d .count)))
+
+unfoldable pub counted : ℕ → ℕ → Work Standing → Work Standing
+counted room at o =
+    work o (λ s. raised (s .count) (adding room at 0 (pos (length (s .items)) ∷ [])))
+
+unfoldable pub valued : World → ℕ → Work Standing → Work Standing
+valued w at o = work o (λ s. trying at (values w (s .items)) (λ xs. stand xs (s .count)))
+
+unfoldable pub stepped : World → ℕ → ℕ → Axis → Test → Work Standing → Work Standing
+stepped w room at x t o =
+    work o
+    (λ s. trying at (w .step x t (s .items)) (λ xs. raised (s .count) (adding room at (length (s .items)) xs)))
+
+abbrev pub Reaches : List ℕ → ℕ → Axis → Test → List ℤ → List Bool → Marked → Type 0
+Reaches doc n x t xs ms AllNodes = step (catalogueOf doc n) x t xs ≡ gives (map nodeCell (ranks n ms))
+Reaches doc n x t xs ms NotANode = step (catalogueOf doc n) x t xs ≡ fails
+
+abbrev pub Valued : World → ℕ → ℕ → List ℤ → List ℤ → Bool → Type 0
+Valued w top n before after true =
+    (ys : List ℤ) × (values w (row before top n) ≡ gives ys) × (length ys ≡ n) × (after ≡ laid before top ys)
+Valued w top n before after false = (values w (row before top n) ≡ fails) × (take top after ≡ take top before)
