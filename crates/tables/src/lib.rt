@@ -1,11 +1,11 @@
 // The operators over tables laid end to end in lent cells.
-mod added;
-mod each;
-mod join;
-mod once;
-mod rows;
-mod search;
-mod whole;
+pub mod added;
+pub mod each;
+pub mod join;
+pub mod once;
+pub mod rows;
+pub mod search;
+pub mod whole;
 
 use cells::Function;
 
