@@ -7,3 +7,4 @@ pub mod OwnFields
 pub mod FieldLaws
 pub mod Turns
 pub mod Accepted
+pub mod Decided

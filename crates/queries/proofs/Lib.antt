@@ -7,3 +7,4 @@ pub mod Walking
 pub mod Callers
 pub mod Skipping
 pub mod FieldRanges
+pub mod Decided
