@@ -6,5 +6,6 @@ pub mod Closed
 pub mod Nodes
 pub mod PlanBound
 pub mod PlanWidths
+pub mod PlanFields
 pub mod PlanBytes
 pub mod PlanRead

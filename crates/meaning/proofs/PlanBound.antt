@@ -1,5 +1,4 @@
 -- A plan never has more than 37 operators per query record plus 3 (document 01, 'Translation').
---     records q                         the number of records of a query
 --     length-freeIn, length-othersIn    at most 8 variables are lifted for a part
 --     length-lifts                      two operators for each lifted variable
 --     Short os k, Few x k               os, the operators of x, are at most k
@@ -20,21 +19,8 @@ use Rattle.cells.specs.declared.Axis.{Axis}
 use Rattle.cells.specs.declared.Test.{Test}
 use Rattle.meaning.specs.Query.{Query, QL, QE, QR, QV, QS, QT, QF, QI, QO, QC, QD, QX, free}
 use Rattle.meaning.specs.Plan.{Op}
+use Rattle.meaning.proofs.Closed.{records}
 use Rattle.meaning.specs.Translation.{Made, Tables, freeIn, othersIn, lifts, ruleL, ruleR, ruleE, tailS, headF, tailF, headI, tailO, tailC, tailD, tailX, then, tr, tailLast, plan}
-
-unfoldable pub records : Query → ℕ
-records (QL at z) = 1
-records (QE at) = 1
-records (QR at k) = 1
-records (QV at v) = 1
-records (QS at a b) = suc (records a + records b)
-records (QT at v a b) = suc (records a + records b)
-records (QF at v a b) = suc (records a + records b)
-records (QI at c a b) = suc (records c + records a + records b)
-records (QO at f a b) = suc (records a + records b)
-records (QC at a) = suc (records a)
-records (QD at a) = suc (records a)
-records (QX at x t a) = suc (records a)
 
 length-cond :
     {A : Type 0} (t : Bool) (x : A) (xs : List A) (n : ℕ) → length xs ≤ n → length (cond t (x ∷ xs) xs) ≤ suc n
@@ -108,33 +94,33 @@ abbrev Bounded : Query → Type 0
 Bounded q = (n l : ℕ) (e : Tables) → Few (tr q n l e) (37 * records q)
 
 bound-QL : (at : ℕ) (z : ℤ) → Bounded (QL at z)
-unfolding tr records ruleL
+unfolding tr ruleL
 bound-QL at z n l e = record { most = lit≤ tt }
 
 bound-QE : (at : ℕ) → Bounded (QE at)
-unfolding tr records ruleE
+unfolding tr ruleE
 bound-QE at n l e = record { most = lit≤ tt }
 
 bound-QR : (at k : ℕ) → Bounded (QR at k)
-unfolding tr records ruleR
+unfolding tr ruleR
 bound-QR at k n l e = record { most = lit≤ tt }
 
 bound-QV : (at v : ℕ) → Bounded (QV at v)
-unfolding tr records
+unfolding tr
 bound-QV at v n l e = record { most = lit≤ tt }
 
 bound-QS : (at : ℕ) (a b : Query) → Bounded a → Bounded b → Bounded (QS at a b)
-unfolding tr records tailS
+unfolding tr tailS
 bound-QS at a b ha hb n l e =
     few-within (few-then (short (ha n l e)) (few-then (short (hb _ l e)) (counted _)))
     (two-more 5 (records a) (records b) (lit≤ tt))
 
 bound-QT : (at v : ℕ) (a b : Query) → Bounded a → Bounded b → Bounded (QT at v a b)
-unfolding tr records
+unfolding tr
 bound-QT at v a b ha hb n l e = few-within (few-then (short (ha n l e)) (hb _ l _)) (let-more (records a) (records b))
 
 bound-QF : (at v : ℕ) (a b : Query) → Bounded a → Bounded b → Bounded (QF at v a b)
-unfolding tr records headF tailF
+unfolding tr headF tailF
 bound-QF at v a b ha hb n l e =
     few-within
     (few-then (short (ha n l e))
@@ -143,7 +129,7 @@ bound-QF at v a b ha hb n l e =
     (for-more (records a) (records b))
 
 bound-QI : (at : ℕ) (c a b : Query) → Bounded c → Bounded a → Bounded b → Bounded (QI at c a b)
-unfolding tr records headI
+unfolding tr headI
 bound-QI at c a b hc ha hb n l e =
     few-within
     (few-then (short (hc n l e))
@@ -154,21 +140,21 @@ bound-QI at c a b hc ha hb n l e =
     (choice-more (records c) (records a) (records b))
 
 bound-QO : (at : ℕ) (f : Function) (a b : Query) → Bounded a → Bounded b → Bounded (QO at f a b)
-unfolding tr records tailO
+unfolding tr tailO
 bound-QO at f a b ha hb n l e =
     few-within (few-then (short (ha n l e)) (few-then (short (hb _ l e)) (counted _)))
     (two-more 6 (records a) (records b) (lit≤ tt))
 
 bound-QC : (at : ℕ) (a : Query) → Bounded a → Bounded (QC at a)
-unfolding tr records tailC
+unfolding tr tailC
 bound-QC at a ha n l e = few-within (few-then (short (ha n l e)) (counted _)) (one-more 7 (records a) (lit≤ tt))
 
 bound-QD : (at : ℕ) (a : Query) → Bounded a → Bounded (QD at a)
-unfolding tr records tailD
+unfolding tr tailD
 bound-QD at a ha n l e = few-within (few-then (short (ha n l e)) (counted _)) (one-more 2 (records a) (lit≤ tt))
 
 bound-QX : (at : ℕ) (x : Axis) (t : Test) (a : Query) → Bounded a → Bounded (QX at x t a)
-unfolding tr records tailX
+unfolding tr tailX
 bound-QX at x t a ha n l e = few-within (few-then (short (ha n l e)) (counted _)) (one-more 4 (records a) (lit≤ tt))
 
 bounded : (q : Query) → Bounded q

@@ -33,7 +33,8 @@ use Rattle.meaning.specs.Attempt.{Attempt, gives, attempt, provided}
 use Rattle.meaning.specs.Query.{functionOf, axisOf, testOf, fragmentOf}
 use Rattle.meaning.specs.Plan.{Op, RT, RA, RP, RU, RD, RS, RJ, RN, RF, RV, RC, RE, RK, RX, RO, markRT, markRA, markRP, markRU, markRD, markRS, markRJ, markRN, markRF, markRC, markRE, markRK, markRX, markRO, plainIn, columnsAt, sized, attachAt, projectAt, numberAt, functionAt, stepAt, operatorOf, operatorAt}
 use Rattle.meaning.specs.Written.{functionNumber, axisNumber, testNumber, testName, operatorBytes}
-use Rattle.meaning.proofs.PlanWidths.{Every, Writable, every-append}
+use Rattle.meaning.proofs.PlanWidths.{Every, every-append}
+use Rattle.meaning.proofs.PlanFields.{Writable}
 
 -- Numbers as bytes
 

@@ -32,7 +32,9 @@ use Rattle.meaning.specs.Written.{testName, operatorBytes, written}
 use Rattle.meaning.specs.Calls.{padded, refusal, planOf, translateOutcome, translateCall}
 use Rattle.meaning.specs.Calls as Calls
 use Rattle.meaning.proofs.PlanBytes.{writable-back, Byte, operator-small, operator-length}
-use Rattle.meaning.proofs.PlanWidths.{Every, every-append, Writable, Width, widths, widths-count, plan-sound, Closed, Fields, attempt-gives, provided-gives, and-true}
+use Rattle.meaning.proofs.Closed.{Closed}
+use Rattle.meaning.proofs.PlanWidths.{Every, every-append, widths, attempt-gives, provided-gives, and-true, widths-count}
+use Rattle.meaning.proofs.PlanFields.{Writable, Width, plan-sound, Fields}
 
 -- The fields of a record that is read
 
@@ -246,13 +248,13 @@ In vs q = Accepted q vs
 
 module _ (rd : Operand) (ih : (vs : List ℕ) (n at : ℕ) → Trees (In vs) (rd vs n at)) (vs : List ℕ) (at n next : ℕ) where
   variable-accepted : (v : ℕ) → v < 8 → Trees (In vs) (unless (bound v vs) 3 at (leaf (QV at v) next n))
-  unfolding Closed Fields
+  unfolding Fields
   variable-accepted v h r e =
       let (b, q) = unless-reads (bound v vs) 3 at (leaf (QV at v) next n) r e in
-      leaf-tree (In vs) (QV at v) next n (record { closed = (h, b); fields = tt }) r q
+      leaf-tree (In vs) (QV at v) next n (record { closed = (b, h); fields = tt }) r q
 
   operands-accepted : (k : Record) → RecordFields k → Trees (In vs) (operands rd vs at n next k)
-  unfolding operands RecordFields Closed Fields
+  unfolding operands RecordFields Fields
   operands-accepted (literal z) h = leaf-tree (In vs) (QL at z) next n (record { closed = tt; fields = h })
   operands-accepted empty h = leaf-tree (In vs) (QE at) next n (record { closed = tt; fields = tt })
   operands-accepted (root k) h = leaf-tree (In vs) (QR at k) next n (record { closed = tt; fields = h })
