@@ -8,11 +8,11 @@
 --     told ask                          the calls' answers to a question
 --     examples                          the table: a question, and what must be told
 --     marked                            every question is told what the table says
-use Prim.Native.Nat.{ℕ, zero, suc, _+_, _-_, _*_}
+use Prim.Native.Nat.{ℕ, zero, suc, _+_, _-_}
 use mathlib.Core.Path.{_≡_, refl}
 use mathlib.Core.List.{List, [], _∷_, _++_, map}
 use lib.IntN.{ℤ, pos, negsuc}
-use lib.ListN.{length, take, drop, getD}
+use lib.ListN.{take, drop, getD}
 use Rattle.laws.specs.Lists as Lists
 use Rattle.laws.specs.Sorting as Sorting
 use Rattle.cells.specs.Cell as Cell

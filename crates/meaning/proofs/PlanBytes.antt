@@ -1,28 +1,26 @@
 -- One operator's bytes read back as that operator (document 01, 'Items and cells' and 'Plan operators').
---     length-bytesOf      a number as n bytes has n bytes
---     word-bytesOf        .. and reads back as the number, wherever it stands
---     byte-at, word-at, columns-at, fits-at     reading past the bytes xs is reading from the start of what follows them
+--     byte-at, word-first, columns-at, fits-at     reading past the bytes xs is reading from the start of what follows them
 --     plain-mag           an integer's or a boolean's cell is in the signed 64-bit range
---     signed-bits8        an integer's or a boolean's cell reads back from its 64 bits
 --     record-of m t rest  a record with the mark R m, the table t and the rest
 --     Back o              the bytes of o, wherever they stand, read back as o
 --     operator-back       that holds of every writable operator
 --     operator-small      .. and its bytes are bytes
 --     operator-length     .. at most 12
-use Prim.Native.Nat.{ℕ, zero, suc, _+_, _-_, _/_, _%_, _^_, _≤_, _<_}
+use Prim.Native.Nat.{ℕ, zero, suc, _+_, _-_, _/_, _%_, _≤_, _<_}
 use mathlib.Core.Path.{_≡_, refl, _∙_, ap, ap₂}
 use mathlib.Core.List.{List, [], _∷_, _++_, append-assoc}
 use mathlib.Core.Bool.{Bool, true, false, false≢true}
 use native.Mathlib.Omega.{arith}
-use native.Mathlib.Nat.{add-zero, add-assoc}
+use native.Mathlib.Nat.{add-zero}
 use lib.Dec.{eqb, ltb, leb, lit≤, lit<}
 use lib.IntN.{ℤ, pos, negsuc}
 use lib.Signed.{mag}
 use lib.ListN.{length, take, length-append}
-use lib.Seq.{getD-append-add, getD-at, drop-append-add, take-append-seam}
-use borrow.Author.Tests.{ltb-true, leb-true, leb-false, ne-eqb, lt-ltb, le-ltb, le-leb}
+use lib.Seq.{getD-append-add, drop-append-add, take-append-seam}
+use borrow.Author.Tests.{ltb-true, leb-true, leb-false, ne-eqb, le-ltb, le-leb}
 use Rattle.cells.specs.Bytes.{byteAt, word, signed, int8, fits, bytesOf, bits8}
 use Rattle.cells.specs.Cell.{held}
+use Rattle.cells.proofs.Bytes.{word-after, word-written, bits8-room, signed-bits8}
 use Rattle.cells.specs.declared.Function.{Function}
 use Rattle.cells.specs.declared.Function.the-variants.{Add, Subtract, Multiply, Divide, Equal, Less}
 use Rattle.cells.specs.declared.Axis.{Axis}
@@ -36,26 +34,14 @@ use Rattle.meaning.specs.Written.{functionNumber, axisNumber, testNumber
 use Rattle.meaning.proofs.PlanWidths.{Every, every-append}
 use Rattle.meaning.proofs.PlanFields.{Writable}
 
--- Numbers as bytes
-
-pub length-bytesOf : (n u : ℕ) → length (bytesOf n u) ≡ n
-unfolding bytesOf
-length-bytesOf zero u = refl
-length-bytesOf (suc n) u = simp length-append (omega (arith, length-bytesOf n (u / 256)))
-
 -- Reading past xs
 
 module _ (xs zs : List ℕ) where
   pub byte-at : (i : ℕ) → byteAt (xs ++ zs) (length xs + i) ≡ byteAt zs i
   byte-at i = getD-append-add xs zs i 0
 
-  pub word-at : (i n : ℕ) → word (xs ++ zs) (length xs + i) n ≡ word zs i n
-  unfolding word
-  word-at i zero = refl
-  word-at i (suc n) = rw (word-at i n, add-assoc (length xs) i n, getD-append-add xs zs (i + n) 0)
-
   pub word-first : (n : ℕ) → word (xs ++ zs) (length xs) n ≡ word zs 0 n
-  word-first n = rw (← (add-zero (length xs))) (word-at 0 n)
+  word-first n = rw (← (add-zero (length xs))) (word-after xs zs 0 n)
 
   pub columns-at : (i n : ℕ) → columnsAt (xs ++ zs) (length xs + i) n ≡ columnsAt zs i n
   unfolding columnsAt
@@ -70,15 +56,6 @@ module _ (xs zs : List ℕ) where
       sized (xs ++ zs) (length xs) n r ≡ gives (o, length xs + n)
   unfolding sized provided attempt
   sized-at n o r h e = rw (fits-at n h, e)
-
-pub word-bytesOf : (n u : ℕ) (xs ys : List ℕ) → u < 256 ^ n → word (xs ++ (bytesOf n u ++ ys)) (length xs) n ≡ u
-unfolding word bytesOf
-word-bytesOf zero u xs ys h = omega arith
-word-bytesOf (suc n) u xs ys h =
-    let k : u / 256 < 256 ^ n = omega arith in
-    let front = word-bytesOf n (u / 256) xs (u % 256 ∷ ys) k in
-    let last = getD-at (bytesOf n (u / 256)) (u % 256) ys 0 n (length-bytesOf n (u / 256)) in
-    rw (append-assoc (bytesOf n (u / 256)) (u % 256 ∷ []) ys, front, getD-append-add, last) (omega arith)
 
 -- Cells
 
@@ -107,24 +84,6 @@ plain-negsuc n h = case (ltb n 0x8000_0000) refl
 pub plain-mag : (z : ℤ) → plainIn (held z) ≡ true → mag z < 0x8000_0000_0000_0000
 plain-mag (pos n) h = let k = plain-pos n h in omega arith
 plain-mag (negsuc n) h = let k = plain-negsuc n h in omega arith
-
-signed-low : (u : ℕ) → u < 0x8000_0000_0000_0000 → signed 0x8000_0000_0000_0000 u ≡ pos u
-unfolding signed
-signed-low u h = rw (lt-ltb u 0x8000_0000_0000_0000 h)
-
-signed-high : (n : ℕ) → n < 0x8000_0000_0000_0000 → signed 0x8000_0000_0000_0000 (0xffff_ffff_ffff_ffff - n) ≡ negsuc n
-unfolding signed
-signed-high n h = rw (le-ltb (0xffff_ffff_ffff_ffff - n) 0x8000_0000_0000_0000 (omega arith)) (ap negsuc (omega arith))
-
-pub signed-bits8 : (z : ℤ) → plainIn (held z) ≡ true → signed 0x8000_0000_0000_0000 (bits8 z) ≡ z
-unfolding bits8
-signed-bits8 (pos n) h = let k = plain-pos n h in signed-low n (omega arith)
-signed-bits8 (negsuc n) h = let k = plain-negsuc n h in signed-high n (omega arith)
-
-bits8-small : (z : ℤ) → plainIn (held z) ≡ true → bits8 z < 256 ^ 8
-unfolding bits8
-bits8-small (pos n) h = let k = plain-pos n h in omega arith
-bits8-small (negsuc n) h = omega arith
 
 -- Numbers of functions, axes and tests
 
@@ -195,7 +154,7 @@ module _ (xs : List ℕ) (m t : ℕ) (h : t < 65536) (rest : List ℕ) where
 
   table-back : word (xs ++ record-of m t rest) (length xs + 2) 2 ≡ t
   unfolding bytesOf
-  table-back = word-at xs (record-of m t rest) 2 2 ∙ word-bytesOf 2 t (0x52 ∷ m ∷ []) rest h
+  table-back = word-after xs (record-of m t rest) 2 2 ∙ word-written (0x52 ∷ m ∷ []) rest 2 t h
 
   -- a record of n bytes, by what its mark says of its fields
   record-back :
@@ -221,8 +180,8 @@ back-RE t h xs ys =
 module _ (m t u : ℕ) (h : t < 65536) (k : u < 65536) (xs ys : List ℕ) where
   second-back : word (xs ++ record-of m t (bytesOf 2 u ++ ys)) (length xs + 4) 2 ≡ u
   second-back =
-      word-at xs (record-of m t (bytesOf 2 u ++ ys)) 4 2
-      ∙ word-bytesOf 2 u (0x52 ∷ m ∷ t / 256 % 256 ∷ t % 256 ∷ []) ys k
+      word-after xs (record-of m t (bytesOf 2 u ++ ys)) 4 2
+      ∙ word-written (0x52 ∷ m ∷ t / 256 % 256 ∷ t % 256 ∷ []) ys 2 u k
 
 back-RU : (t u : ℕ) → t < 65536 → u < 65536 → Back (RU t u)
 unfolding operatorBytes bytesOf operatorOf
@@ -268,9 +227,9 @@ module _ (t : ℕ) (z : ℤ) (h : t < 65536) (p : plainIn (held z) ≡ true) (xs
   unfolding int8
   cell-back =
       ap (signed 0x8000_0000_0000_0000)
-      (word-at xs (record-of 0x41 t cellRest) 4 8
-      ∙ word-bytesOf 8 (bits8 z) (0x52 ∷ 0x41 ∷ t / 256 % 256 ∷ t % 256 ∷ []) ys (bits8-small z p))
-      ∙ signed-bits8 z p
+      (word-after xs (record-of 0x41 t cellRest) 4 8
+      ∙ word-written (0x52 ∷ 0x41 ∷ t / 256 % 256 ∷ t % 256 ∷ []) ys 8 (bits8 z) (bits8-room z (plain-mag z p)))
+      ∙ signed-bits8 z (plain-mag z p)
 
 attach-back :
     (bs : List ℕ) (at t : ℕ) (y z : ℤ) → word bs (at + 2) 2 ≡ t → y ≡ z → plainIn (held z) ≡ true →
@@ -303,7 +262,7 @@ back-RJ t c u d h k xs ys =
     let a = table-back xs 0x4A t h rest in
     let b = byte-at xs zs 4 in
     let other =
-    word-at xs zs 5 2 ∙ word-bytesOf 2 u (0x52 ∷ 0x4A ∷ t / 256 % 256 ∷ t % 256 ∷ c ∷ []) (d ∷ ys) k
+    word-after xs zs 5 2 ∙ word-written (0x52 ∷ 0x4A ∷ t / 256 % 256 ∷ t % 256 ∷ c ∷ []) (d ∷ ys) 2 u k
     in
     let e = byte-at xs zs 7 in
     record-back xs 0x4A t h rest 8 (RJ t c u d) _ (omega arith) (λ i. gives (RJ (a i) (b i) (other i) (e i))) refl
@@ -405,8 +364,8 @@ back-RX t x y h k xs ys =
     let axis : byteAt bs (length xs + 4) ≡ axisNumber x = byte-at xs zs 4 in
     let test : byteAt bs (length xs + 5) ≡ testNumber y = byte-at xs zs 5 in
     let name : word bs (length xs + 6) 2 ≡ testName y =
-    word-at xs zs 6 2
-    ∙ word-bytesOf 2 (testName y) (0x52 ∷ 0x58 ∷ t / 256 % 256 ∷ t % 256 ∷ axisNumber x ∷ testNumber y ∷ []) ys k
+    word-after xs zs 6 2
+    ∙ word-written (0x52 ∷ 0x58 ∷ t / 256 % 256 ∷ t % 256 ∷ axisNumber x ∷ testNumber y ∷ []) ys 2 (testName y) k
     in
     record-back xs 0x58 t h rest 8 (RX t x y) (stepAt bs (length xs)) (four-more (length ys))
     (step-back bs (length xs) t x y (table-back xs 0x58 t h rest) axis test name)
