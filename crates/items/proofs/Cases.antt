@@ -7,12 +7,12 @@
 --     text-..                    the value of a node
 --     truth-none, truth-first    truth of no items, and of a first one
 --     root-is, root-none         the root of a fragment; its rank is below the number of rows
-use Prim.Native.Nat.{ℕ, zero, suc, _+_, _-_, _≤_, _<_}
-use mathlib.Core.Path.{_≡_, refl, sym, ap, _∙_, subst}
+use Prim.Native.Nat.{ℕ, zero, suc, _-_, _≤_, _<_}
+use mathlib.Core.Path.{_≡_, refl, ap, subst}
 use mathlib.Core.List.{List, [], _∷_}
-use mathlib.Core.Bool.{Bool, true, false, not, cond, _&&_}
+use mathlib.Core.Bool.{Bool, true, false, not, cond}
 use native.Mathlib.Omega.{arith}
-use lib.Dec.{ltb, eqb}
+use lib.Dec.{eqb}
 use lib.IntN.{ℤ, pos}
 use lib.ListN.{length, getD}
 use lib.Signed.{quotZ}
@@ -27,8 +27,8 @@ use Rattle.cells.specs.declared.Held.{Held}
 use Rattle.cells.specs.declared.Held.the-variants as Held
 use Rattle.laws.proofs.Lists.{All, all-kept, all-below}
 use Rattle.laws.specs.Lists.{below}
-use Rattle.meaning.specs.Attempt.{Attempt, fails, gives, attempt, provided}
-use Rattle.meaning.specs.Catalogue.{Catalogue, catalogueOf, text}
+use Rattle.meaning.specs.Attempt.{fails, gives, attempt, provided}
+use Rattle.meaning.specs.Catalogue.{Catalogue, catalogueOf}
 use Rattle.meaning.specs.World as World
 use Rattle.meaning.specs.World.{ranged, integerOf, valueIn, truthFrom, roots, member, rootOf}
 use Rattle.catalogue.specs.Fields.{kindAt, propAt}

@@ -6,7 +6,7 @@
 --     textValue c r     the value of the node of rank r
 --     truthOf i alone   truth of a condition whose first item is i, and whose only one where `alone`
 use Prim.Native.Nat.{ℕ}
-use mathlib.Core.Bool.{Bool, true, false, not, cond, _&&_}
+use mathlib.Core.Bool.{Bool, true, not, _&&_}
 use lib.Dec.{ltb, eqb}
 use lib.IntN.{ℤ, pos}
 use Rattle.cells.specs.Cell.{same}

@@ -2,14 +2,14 @@
 --     laid-nothing, laid-more       nothing laid changes nothing; laid one after the other is laid at once
 --     row-laid, rowsAt-laid         what stands below is as it was
 --     length-laid, length-row, getD-row, set-laid
-use Prim.Native.Nat.{ℕ, zero, suc, _+_, _-_, _*_, _≤_, _<_, min}
+use Prim.Native.Nat.{ℕ, zero, suc, _+_, _-_, _*_, _≤_, _<_}
 use mathlib.Core.Path.{_≡_, refl, sym, ap, ap₂, _∙_}
-use mathlib.Core.List.{List, [], _∷_, _++_, append-assoc, append-nil}
+use mathlib.Core.List.{List, [], _∷_, _++_, append-assoc}
 use native.Mathlib.Omega.{arith}
 use native.Mathlib.Numerals.{add-one}
-use native.Mathlib.Nat.{add-zero, zero-add, add-assoc, mul-zero, suc-add, suc-mul}
+use native.Mathlib.Nat.{add-zero, zero-add, add-assoc, suc-add, suc-mul}
 use lib.ListN.{length, take, drop, getD, set, length-append, length-take, length-drop, take-append-drop}
-use lib.Seq.{take-append-le, drop-append-le, take-append-add, drop-append-add, take-take, drop-drop, getD-take, getD-drop, set-split, length-take-le, take-at, drop-at, drop-cons, take-add, take-all, drop-nil, take-nil, take-suc}
+use lib.Seq.{take-append-le, take-take, drop-drop, getD-take, getD-drop, set-split, length-take-le, take-at, drop-at, drop-nil, take-nil, take-suc}
 use Rattle.laws.specs.Rows.{row, rowsAt, laid}
 
 module _ {A : Type 0} where

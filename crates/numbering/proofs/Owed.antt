@@ -12,7 +12,7 @@ use native.Mathlib.Nat.{le-mul-of-pos-right, mul-le-mul-left, mul-le-mul, mul-co
 use lib.IntN.{ℤ}
 use lib.ListN.{length}
 use Rattle.laws.specs.Lists.{below}
-use Rattle.laws.specs.Rows.{row, rowsAt, laid}
+use Rattle.laws.specs.Rows.{rowsAt, laid}
 use Rattle.laws.specs.Sorting.{sort}
 use Rattle.laws.proofs.Rows.{length-rowsAt}
 use Rattle.laws.proofs.Merging.{length-sort}

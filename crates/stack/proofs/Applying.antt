@@ -1,7 +1,7 @@
 -- A function of two sides (document 01, 'Query records', QO), by how many items each side has.
 --     apply-..      what `apply` gives
 --     sides-..      what the record leaves on the stack
-use Prim.Native.Nat.{ℕ, zero, suc, _+_, _-_, _≤_, _<_}
+use Prim.Native.Nat.{ℕ, _+_, _-_, _≤_, _<_}
 use mathlib.Core.Path.{_≡_, refl, sym, ap, ap₂, _∙_}
 use mathlib.Core.List.{List, [], _∷_}
 use native.Mathlib.Omega.{arith}
@@ -11,7 +11,7 @@ use lib.ListN.{length, getD}
 use Rattle.laws.specs.Rows.{row, laid}
 use Rattle.laws.proofs.Rows.{length-row, getD-row, laid-nothing}
 use Rattle.cells.specs.declared.Function.{Function}
-use Rattle.meaning.specs.Attempt.{Attempt, fails, gives, attempt, trying, work}
+use Rattle.meaning.specs.Attempt.{Attempt, fails, gives, attempt, work}
 use Rattle.meaning.specs.World.{World}
 use Rattle.meaning.specs.Meaning.{apply}
 use Rattle.meaning.specs.Counted.{stand}

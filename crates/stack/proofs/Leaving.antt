@@ -10,8 +10,8 @@
 --     leaves-items, leaves-pair       what is done with an operand's items, or with those of two
 --     leaves-stopped, pair-stopped    an operand that is refused is handed on
 --     stood-joined              both operands' items as those of one
-use Prim.Native.Nat.{ℕ, zero, suc, _+_, _-_, _≤_, _<_, max}
-use mathlib.Core.Path.{_≡_, refl, sym, ap, ap₂, _∙_, subst}
+use Prim.Native.Nat.{ℕ, _+_, _-_, _≤_, _<_}
+use mathlib.Core.Path.{_≡_, refl, sym, ap, _∙_, subst}
 use mathlib.Core.List.{List, [], _∷_, _++_}
 use native.Mathlib.Omega.{arith}
 use native.Mathlib.Nat.{le-refl}
@@ -23,7 +23,7 @@ use lib.ListN.{length, take, drop, set}
 use lib.Seq.{take-add, drop-drop}
 use Rattle.laws.specs.Rows.{row, laid}
 use Rattle.laws.proofs.Rows.{take-laid, set-laid}
-use Rattle.meaning.specs.Attempt.{Attempt, fails, gives, trying, Work, full, failed, done, work, within}
+use Rattle.meaning.specs.Attempt.{Attempt, fails, gives, trying, Work, full, failed, work, within}
 use Rattle.meaning.specs.Counted.{Standing, stand, adding}
 use Rattle.stack.specs.declared.Stood.{Stood}
 use Rattle.stack.specs.declared.Stood.the-variants as Stood

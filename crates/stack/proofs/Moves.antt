@@ -7,7 +7,7 @@
 --     laid-zeros               one zero more
 --     padded-zeros             zeros laid to the end
 use Prim.Native.Nat.{ℕ, zero, suc, _+_, _-_, _≤_, _<_}
-use mathlib.Core.Path.{_≡_, refl, sym, ap, _∙_}
+use mathlib.Core.Path.{_≡_, sym, ap, _∙_}
 use mathlib.Core.Logic.{_⊎_, ⊎-elim}
 use mathlib.Core.List.{List, [], _∷_, _++_, append-assoc, append-nil}
 use native.Mathlib.Omega.{arith}
@@ -27,9 +27,9 @@ use lib.ListN.{
   replicate-append-replicate,
   drop-of-length-le,
 }
-use lib.Seq.{take-at, drop-at, drop-append-le, take-append-le, take-append-seam, length-take-le, getD-drop, take-take, take-nil, drop-nil}
+use lib.Seq.{drop-at, take-append-seam, length-take-le, getD-drop, take-take, take-nil, drop-nil}
 use Rattle.laws.specs.Rows.{row, laid}
-use Rattle.laws.proofs.Rows.{length-laid, laid-more, getD-laid, length-row, row-suc, set-laid, set-more}
+use Rattle.laws.proofs.Rows.{getD-laid, length-row, row-suc, set-more}
 use Rattle.meaning.specs.Calls.{padded}
 
 module _ {A : Type 0} where

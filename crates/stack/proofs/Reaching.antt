@@ -3,7 +3,7 @@
 --     reaches-all, reaches-not     what `reach` answers
 --     leaves-reached, leaves-short, leaves-strange     the nodes in place of the items; too many of them; an item that is no node
 use Prim.Native.Nat.{ℕ, _+_, _-_, _≤_, _<_, max}
-use mathlib.Core.Path.{_≡_, refl, sym, ap, ap₂, _∙_, subst}
+use mathlib.Core.Path.{_≡_, refl, sym, ap, _∙_, subst}
 use mathlib.Core.Bool.{Bool}
 use mathlib.Core.List.{List, map}
 use native.Mathlib.Omega.{arith}
@@ -14,11 +14,11 @@ use Rattle.cells.specs.declared.Axis.{Axis}
 use Rattle.cells.specs.declared.Test.{Test}
 use Rattle.laws.specs.Rows.{row, laid}
 use Rattle.laws.proofs.Rows.{length-row}
-use Rattle.meaning.specs.Attempt.{fails, gives, trying, work}
+use Rattle.meaning.specs.Attempt.{fails}
 use Rattle.meaning.specs.Catalogue.{catalogueOf}
 use Rattle.meaning.specs.World as World
 use Rattle.meaning.specs.World.{worldOf}
-use Rattle.meaning.specs.Counted.{Standing, adding}
+use Rattle.meaning.specs.Counted.{adding}
 use Rattle.steps.specs.declared.Marked.{Marked}
 use Rattle.steps.specs.declared.Marked.the-variants.{AllNodes, NotANode}
 use Rattle.steps.specs.Marks.{ranks, Step}

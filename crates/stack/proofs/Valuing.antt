@@ -2,7 +2,7 @@
 --     behind vs a           what an attempt gives, behind vs
 --     Taking w xs i vs      the first i items of xs have the values vs: the whole is what the rest gives behind them
 --     taking-none, taking-more, taking-stop, taking-all
-use Prim.Native.Nat.{ℕ, zero, suc, _+_, _≤_, _<_}
+use Prim.Native.Nat.{ℕ, suc, _+_, _<_}
 use mathlib.Core.Path.{_≡_, refl, sym, ap, _∙_}
 use mathlib.Core.List.{List, [], _∷_, _++_, append-assoc, append-nil}
 use native.Mathlib.Omega.{arith}

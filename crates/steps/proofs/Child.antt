@@ -5,13 +5,13 @@
 --     opens-begin                at row 0
 --     opens-more                 at the next row
 --     opens-flag                 v is a child of a marked row exactly when its level's flag is set
-use Prim.Native.Nat.{ℕ, zero, suc, _+_, _≤_, _<_}
+use Prim.Native.Nat.{ℕ, zero, suc, _+_, _<_}
 use mathlib.Core.Path.{_≡_, refl, sym, ap, _∙_}
 use mathlib.Core.List.{List}
-use mathlib.Core.Bool.{Bool, true, false}
+use mathlib.Core.Bool.{Bool, false}
 use native.Mathlib.Decide.{ℕ-discrete}
 use native.Mathlib.Omega.{arith}
-use lib.ListN.{length, getD, set, replicate, length-set, length-replicate, getD-replicate}
+use lib.ListN.{length, getD, set, replicate, length-set}
 use lib.Seq.{getD-set-same, getD-set-other}
 use Rattle.cells.specs.declared.Axis.the-variants.{Child}
 use Rattle.laws.specs.Lists.{any}
@@ -22,7 +22,7 @@ use Rattle.catalogue.specs.Nested.{Nested}
 use Rattle.catalogue.proofs.Fragments.{fragment-covered}
 use Rattle.steps.specs.Marks.{ranks}
 use Rattle.steps.proofs.Lists.{any-is}
-use Rattle.steps.proofs.Parents.{Over, parent-over, only-parent}
+use Rattle.steps.proofs.Parents.{parent-over, only-parent}
 use Rattle.steps.proofs.Axes.{on-axis, axis-of, child, child-of}
 
 pub record Opens (level : ℕ → ℕ) (ms : List Bool) (v : ℕ) (opens : List Bool) : Type 0 where

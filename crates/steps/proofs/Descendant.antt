@@ -10,12 +10,11 @@ use mathlib.Core.Path.{_≡_, refl, sym, ap, _∙_}
 use mathlib.Core.Logic.{_⊎_, inl, inr}
 use mathlib.Core.List.{List}
 use mathlib.Core.Bool.{Bool, true, false, cond, _&&_, _||_, or-false}
-use native.Mathlib.Decide.{ℕ-discrete, decLt}
+use native.Mathlib.Decide.{ℕ-discrete}
 use native.Mathlib.Omega.{arith}
 use lib.Dec.{eqb, ltb, leb}
 use lib.ListN.{getD}
-use borrow.Author.Tests.{eqb-true, eq-eqb, ltb-true, lt-ltb, leb-true, leb-false, le-leb}
-use Rattle.cells.specs.declared.Axis.{Axis}
+use borrow.Author.Tests.{eqb-true, eq-eqb, ltb-true, lt-ltb, leb-true, leb-false}
 use Rattle.cells.specs.declared.Axis.the-variants.{Descendant, DescendantOrSelf}
 use Rattle.laws.specs.Lists.{any}
 use Rattle.laws.proofs.Filters.{clash}
@@ -24,7 +23,7 @@ use Rattle.meaning.specs.World.{isDescendant, axisHolds, onAxis}
 use Rattle.catalogue.specs.Nested.{Nested}
 use Rattle.catalogue.proofs.Fragments.{fragment-covered}
 use Rattle.steps.specs.Marks.{ranks, orSelf}
-use Rattle.steps.proofs.Tests.{both-and, or-cases, or-left, or-right}
+use Rattle.steps.proofs.Tests.{or-cases, or-left, or-right}
 use Rattle.steps.proofs.Lists.{any-is}
 use Rattle.steps.proofs.Axes.{on-axis, axis-of, fragment-of, descendant, descendant-of}
 

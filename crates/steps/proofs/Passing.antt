@@ -2,7 +2,7 @@
 --     signed-same     a signed number is a natural one where its bits are those of that number, and it is not negative
 --     named-is        the test of a name: the kind, then the four bytes of prop
 use Prim.Native.Nat.{ℕ, _+_, _*_, _-_, _≤_, _<_}
-use mathlib.Core.Path.{_≡_, refl, sym, ap, _∙_}
+use mathlib.Core.Path.{_≡_, refl, sym, ap}
 use mathlib.Core.List.{List}
 use mathlib.Core.Bool.{Bool, true, false, cond, _&&_}
 use lib.Dec.{ltb, eqb}
@@ -12,7 +12,7 @@ use Rattle.cells.specs.Bytes.{word, signed, int4}
 use Rattle.cells.specs.Cell.{same}
 use Rattle.cells.specs.declared.Test.{Test}
 use Rattle.cells.specs.declared.Test.the-variants.{AnyNode, Element, Text, Named}
-use Rattle.meaning.specs.Catalogue.{catalogueOf, element, text}
+use Rattle.meaning.specs.Catalogue.{catalogueOf}
 use Rattle.meaning.specs.World.{passes}
 use Rattle.catalogue.specs.Fields.{kindAt}
 

@@ -4,8 +4,8 @@
 --     reached-ranks     from the marks of some ranks a step leaves the marks of exactly the ranks that it reaches
 --     step-gives        the step of a list of nodes gives the nodes that are marked in the end
 --     step-fails        .. and fails where some cell is no node
-use Prim.Native.Nat.{ℕ, _≤_, _<_}
-use mathlib.Core.Path.{_≡_, refl, sym, ap, subst, _∙_}
+use Prim.Native.Nat.{ℕ}
+use mathlib.Core.Path.{_≡_, sym, ap, subst, _∙_}
 use mathlib.Core.List.{List, map}
 use mathlib.Core.Bool.{Bool, false, _&&_}
 use native.Mathlib.Omega.{arith}
@@ -14,10 +14,10 @@ use lib.ListN.{getD}
 use Rattle.cells.specs.Cell.{nodeCell}
 use Rattle.cells.specs.declared.Axis.{Axis}
 use Rattle.cells.specs.declared.Test.{Test}
-use Rattle.laws.specs.Lists.{filter, any, below}
-use Rattle.meaning.specs.Attempt.{Attempt, fails, gives, attempt}
+use Rattle.laws.specs.Lists.{any}
+use Rattle.meaning.specs.Attempt.{fails, gives, attempt}
 use Rattle.meaning.specs.Catalogue.{Catalogue, catalogueOf}
-use Rattle.meaning.specs.World.{onAxis, passes, ranksOf, reached, step}
+use Rattle.meaning.specs.World.{onAxis, passes, reached, step}
 use Rattle.catalogue.specs.Nested.{Nested}
 use Rattle.catalogue.specs.Sound.{Sound}
 use Rattle.steps.specs.declared.Marked.the-variants.{AllNodes, NotANode}

@@ -9,11 +9,11 @@ use mathlib.Core.List.{List, [], _∷_}
 use mathlib.Core.Bool.{Bool, true, false, not, _&&_, _||_, false≢true}
 use native.Mathlib.Omega.{arith}
 use lib.IntN.{ℤ, pos}
-use lib.ListN.{length, getD}
+use lib.ListN.{getD}
 use Rattle.cells.specs.Cell.{same, before}
 use Rattle.cells.proofs.Cells.{before-trans, before-other}
 use Rattle.laws.specs.Lists.{any}
-use Rattle.laws.specs.Rows.{row, rowsAt}
+use Rattle.laws.specs.Rows.{rowsAt}
 use Rattle.laws.proofs.Lists.{All, all-map}
 use Rattle.meaning.specs.Operators.{Table, cell, column, once}
 use Rattle.tables.specs.Order.{rises}

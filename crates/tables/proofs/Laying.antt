@@ -7,7 +7,7 @@
 --     row-more, row-stopped, rows-laid          the same of a loop over the rows of a table
 --     counted-fits                              the rows are no more than the room
 --     length-laying                             the cells stay as many
-use Prim.Native.Nat.{ℕ, zero, suc, _+_, _-_, _*_, _≤_, _<_}
+use Prim.Native.Nat.{ℕ, _+_, _-_, _*_, _≤_, _<_}
 use mathlib.Core.Path.{_≡_, refl, sym, ap, _∙_, subst}
 use mathlib.Core.List.{List, [], _∷_, _++_, append-assoc, append-nil}
 use native.Mathlib.Omega.{arith}

@@ -11,7 +11,6 @@ use lib.IntN.{ℤ, pos}
 use Rattle.cells.specs.Cell.{same, trueCell}
 use Rattle.cells.specs.declared.Function.{Function}
 use Rattle.laws.specs.Lists.{filter, any, gather}
-use Rattle.laws.specs.Rows.{rowsAt}
 use Rattle.meaning.specs.Attempt.{Attempt, fails, gives, attempt, provided, each}
 use Rattle.meaning.specs.Catalogue.{Catalogue}
 use Rattle.meaning.specs.Operators.{Row, Table, cell, sameRow, attach, project, minus, select, join, added, rooted, column, once, tableOf, make}

@@ -6,12 +6,12 @@
 --     owes-cell, owes-none              rows that stand on a cell that is worked out first
 --     owes-provided, owes-refused       rows that are made where a test holds
 --     flat-append, length-flat          the cells of a table
-use Prim.Native.Nat.{ℕ, zero, suc, _+_, _*_, _≤_, _<_}
+use Prim.Native.Nat.{ℕ, suc, _+_, _*_, _≤_, _<_}
 use mathlib.Core.Path.{_≡_, refl, sym, ap, _∙_, subst}
 use mathlib.Core.List.{List, [], _∷_, _++_, append-assoc, append-nil}
 use mathlib.Core.Bool.{Bool, true, false, cond}
 use native.Mathlib.Omega.{arith}
-use native.Mathlib.Nat.{suc-mul, zero-mul, zero-add}
+use native.Mathlib.Nat.{suc-mul, zero-mul}
 use lib.IntN.{ℤ}
 use lib.ListN.{length, length-append, set}
 use Rattle.laws.specs.Lists.{gather}

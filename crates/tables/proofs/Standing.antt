@@ -20,7 +20,7 @@ use Rattle.laws.specs.Lists.{gather}
 use Rattle.laws.specs.Rows.{row, rowsAt, laid}
 use Rattle.laws.proofs.Rows.{length-row, length-rowsAt, length-laid, rowsAt-laid}
 use Rattle.meaning.specs.Attempt.{Attempt, gives, attempt, each}
-use Rattle.meaning.specs.Operators.{Row, Table}
+use Rattle.meaning.specs.Operators.{Table}
 use Rattle.meaning.specs.Calls.{flat}
 use Rattle.tables.specs.declared.Stand.{Stand}
 use Rattle.tables.specs.declared.Laid.{Laid}

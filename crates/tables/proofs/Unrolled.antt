@@ -7,11 +7,10 @@
 --     restSame xs a b w i      the rows of width w at a and b are equal from cell i on
 --     cells-all, cells-same, cells-differ, cells-through     .. from the start, and cell by cell
 use Prim.Native.Nat.{ℕ, zero, suc, _+_, _-_, _*_, _≤_, _<_}
-use mathlib.Core.Path.{_≡_, refl, sym, ap, ap₂, _∙_}
+use mathlib.Core.Path.{_≡_, sym, ap, ap₂, _∙_}
 use mathlib.Core.List.{List, [], _∷_}
 use mathlib.Core.Bool.{Bool, true, false, _||_, _&&_}
 use native.Mathlib.Omega.{arith}
-use native.Mathlib.Numerals.{add-one}
 use native.Mathlib.Nat.{suc-mul, add-zero, sub-zero}
 use lib.IntN.{ℤ, pos}
 use lib.ListN.{length, getD, take}

@@ -11,7 +11,7 @@ use lib.IntN.{ℤ}
 use lib.ListN.{length}
 use Rattle.laws.specs.Rows.{rowsAt, laid}
 use Rattle.meaning.specs.Attempt.{Attempt, fails, gives}
-use Rattle.meaning.specs.Operators.{Row, Table}
+use Rattle.meaning.specs.Operators.{Table}
 use Rattle.meaning.specs.Calls.{flat}
 use Rattle.tables.specs.declared.Stand.{Stand}
 use Rattle.tables.specs.declared.Laid.{Laid}

@@ -14,14 +14,13 @@ use mathlib.Core.Bool.{Bool, true, false, cond}
 use lib.IntN.{ℤ}
 use lib.ListN.{length}
 use Rattle.cells.specs.Cell.{same, trueCell}
-use Rattle.laws.specs.Lists.{filter, any, all}
+use Rattle.laws.specs.Lists.{filter, any}
 use Rattle.meaning.specs.Attempt.{Attempt, fails, gives, attempt}
 use Rattle.meaning.specs.Catalogue.{Catalogue}
 use Rattle.meaning.specs.World.{arith, value}
 use Rattle.meaning.specs.Plan.{columnsAt, columns}
 use Rattle.meaning.specs.Operators.{Row, Table, cell, sameRow}
 use Rattle.tables.specs.Layout.{tableAt, Inside}
-use Rattle.tables.specs.declared.Stand.{Stand}
 use Rattle.tables.specs.declared.Task.{Task}
 use Rattle.tables.specs.declared.Task.the-variants.{Attach, Project, Minus, Select, Join, Apply, Value}
 

@@ -1,10 +1,10 @@
 -- `root` meets its contract. The invariant of its loop: of the roots from r on, the one that `left` others stand before
 -- is the one that was asked for. The measure is the rows that are left.
-use Prim.Native.Nat.{ℕ, _≤_, _+_, _-_}
+use Prim.Native.Nat.{ℕ, _≤_, _-_}
 use native.Mathlib.Omega.{arith}
 use mathlib.Core.List.{List}
 use mathlib.Core.Path.{_≡_, sym, _∙_}
-use Rattle.meaning.specs.Catalogue.{Catalogue, catalogueOf}
+use Rattle.meaning.specs.Catalogue.{catalogueOf}
 use Rattle.meaning.specs.World.{roots, member}
 use Rattle.catalogue.specs.Answers.{found}
 use Rattle.catalogue.specs.Ranks.{rootsFrom}

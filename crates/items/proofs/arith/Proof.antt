@@ -1,10 +1,8 @@
 -- `items::arith` meets its contract, by what the two cells hold.
 use mathlib.Core.Path.{_≡_, sym, _∙_, ap, ap₂}
-use lib.IntN.{ℤ}
 use mir.Syntax.{w32}
 use mir.Val.{SFits}
 use mir.Facts.{toZ-ofZ}
-use Rattle.meaning.specs.Attempt.{gives}
 use Rattle.meaning.specs.World as World
 use Rattle.meaning.specs.World.{integerOf}
 use Rattle.items.specs.Answers.{number, tried}

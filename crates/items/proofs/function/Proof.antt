@@ -1,5 +1,5 @@
 -- `items::function` meets its contract, function by function.
-use mathlib.Core.Path.{_≡_, sym, _∙_, ap}
+use mathlib.Core.Path.{_≡_, _∙_, ap}
 use mir.Syntax.{w32, w64}
 use mir.Val.{ofZ, toZ}
 use mir.Facts.{toZ-ofZ}

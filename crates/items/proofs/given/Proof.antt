@@ -1,6 +1,6 @@
 -- `items::given` meets its contract: an integer, widened to a cell, is itself.
-use mathlib.Core.Path.{_≡_, sym, _∙_, ap}
-use mir.Syntax.{w32, w64}
+use mathlib.Core.Path.{sym, _∙_, ap}
+use mir.Syntax.{w32}
 use mir.Val.{SFits}
 use mir.Facts.{toZ-ofZ, sfits-widen}
 use Rattle.meaning.specs.Attempt.{gives}

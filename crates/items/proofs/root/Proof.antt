@@ -1,5 +1,5 @@
 -- `items::root` meets its contract: the root, where there is one, is a row, so that its cell is within the cells.
-use mathlib.Core.Path.{_≡_, sym, _∙_, ap}
+use mathlib.Core.Path.{sym, _∙_, ap}
 use Prim.Native.Nat.{_<_}
 use native.Mathlib.Omega.{arith}
 use mir.Syntax.{w64}

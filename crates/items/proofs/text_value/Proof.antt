@@ -1,5 +1,5 @@
 -- `items::text_value` meets its contract: no row, no text, or its number.
-use mathlib.Core.Path.{_≡_, sym, _∙_, ap}
+use mathlib.Core.Path.{_∙_}
 use native.Mathlib.Omega.{arith}
 use mir.Syntax.{w32}
 use Rattle.cells.proofs.Bits.{read-back}

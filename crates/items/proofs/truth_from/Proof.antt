@@ -1,5 +1,5 @@
 -- `items::truth_from` meets its contract, by the item's cases.
-use mathlib.Core.Path.{_≡_, refl, _∙_, ap}
+use mathlib.Core.Path.{refl, _∙_, ap}
 use mathlib.Core.Bool.{not}
 use lib.IntN.{pos}
 use mir.Syntax.{w32}

@@ -1,8 +1,6 @@
 -- `again` meets its contract: the room decides, and the items are laid at the top.
-use mathlib.Core.Path.{_≡_, refl, _∙_}
-use mathlib.Core.Logic.{inl, inr}
+use mathlib.Core.Logic.{inr}
 use native.Mathlib.Omega.{arith}
-use native.Mathlib.Nat.{zero-add}
 use Rattle.laws.proofs.Rows.{length-row}
 use Rattle.stack.proofs.Leaving.{leaves-crowded, leaves-added}
 use borrow.Author.Needs.{needs}

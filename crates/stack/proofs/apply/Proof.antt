@@ -1,5 +1,5 @@
 -- `apply` meets its contract: an operand that is refused is handed on; else the function of the two sides.
-use mathlib.Core.Path.{_≡_, refl, sym, _∙_, ap, subst}
+use mathlib.Core.Path.{refl, sym, subst}
 use Rattle.meaning.specs.Attempt.{work}
 use Rattle.stack.specs.Stack.{FitPair, paired}
 use Rattle.stack.specs.Arms.{applied}

@@ -1,7 +1,6 @@
 -- `beside` meets its contract, case by case.
-use Prim.Native.Nat.{ℕ, _+_, _^_, _<_}
-use mathlib.Core.Path.{_≡_, refl, sym, _∙_, ap, subst}
-use native.Mathlib.Omega.{arith}
+use Prim.Native.Nat.{ℕ}
+use mathlib.Core.Path.{sym, _∙_, ap, subst}
 use Rattle.stack.specs.declared.Pair.the-variants as Pair
 use Rattle.stack.specs.Stack.{besiding, Adds}
 use borrow.Author.Needs.{needs}

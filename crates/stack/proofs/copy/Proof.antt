@@ -1,6 +1,6 @@
 -- `copy` meets its contract: the first i cells are laid.
-use Prim.Native.Nat.{_+_, _-_, _≤_}
-use mathlib.Core.Path.{_≡_, refl, sym, ap, _∙_}
+use Prim.Native.Nat.{_-_, _≤_}
+use mathlib.Core.Path.{_≡_, refl, sym}
 use mathlib.Core.Logic.{_⊎_, ⊎-elim, inl, inr}
 use native.Mathlib.Omega.{arith}
 use lib.IntN.{pos}

@@ -1,5 +1,5 @@
 -- `join` meets its contract, case by case.
-use mathlib.Core.Path.{_≡_, refl, sym, _∙_, ap, subst}
+use mathlib.Core.Path.{sym, ap, subst}
 use native.Mathlib.Omega.{arith}
 use Prim.Native.Nat.{_+_, _≤_}
 use Rattle.stack.specs.Stack.{joining, Sums}

@@ -1,9 +1,7 @@
 -- `put` meets its contract: the room decides, and the item is laid at the top.
-use mathlib.Core.Path.{_≡_, refl, _∙_}
-use mathlib.Core.List.{[], _∷_}
+use mathlib.Core.Path.{refl}
 use native.Mathlib.Omega.{arith}
 use mir.Facts.{toZ-ofZ}
-use Rattle.laws.proofs.Rows.{set-laid}
 use Rattle.stack.proofs.Leaving.{leaves-crowded, leaves-added, put-at}
 use borrow.Author.Needs.{needs}
 use Rattle.stack.proofs.put.Statement.{statement}

@@ -1,5 +1,5 @@
 -- `reach` meets its contract: marks of the items, then the step over them.
-use mathlib.Core.Path.{_≡_, refl}
+use mathlib.Core.Path.{refl}
 use Rattle.meaning.specs.Catalogue.{catalogueOf}
 use Rattle.stack.proofs.Reaching.{reaches-all, reaches-not}
 use borrow.Author.Needs.{needs}

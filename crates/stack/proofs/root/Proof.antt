@@ -1,6 +1,5 @@
 -- `root` meets its contract: the root is added, where there is one.
-use mathlib.Core.Path.{_≡_, refl, sym, _∙_, ap, subst}
-use native.Mathlib.Omega.{arith}
+use mathlib.Core.Path.{refl, sym, _∙_, ap}
 use mir.Syntax.{w64}
 use mir.Val.{SFits}
 use mir.Facts.{toZ-ofZ}

@@ -1,8 +1,7 @@
 -- `step` meets its contract: an operand that is refused is handed on; else the nodes that are reached, where the room suffices.
 use Prim.Native.Nat.{_+_, _≤_}
-use mathlib.Core.Path.{_≡_, refl, sym, _∙_, ap, subst}
+use mathlib.Core.Path.{subst}
 use native.Mathlib.Omega.{arith}
-use lib.ListN.{length}
 use Rattle.stack.specs.Stack.{Fit}
 use Rattle.stack.specs.Arms.{stepped}
 use Rattle.stack.proofs.Leaving.{leaves-stopped}

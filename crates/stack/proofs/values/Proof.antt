@@ -1,5 +1,5 @@
 -- `values` meets its contract: an operand that is refused is handed on; else each item's value stands in its place.
-use mathlib.Core.Path.{_≡_, refl, sym, ap, _∙_, subst}
+use mathlib.Core.Path.{subst}
 use native.Mathlib.Omega.{arith}
 use Rattle.stack.specs.Stack.{Fit}
 use Rattle.stack.specs.Arms.{valued, Valued}

@@ -1,5 +1,4 @@
 -- `steps::level_of` meets its contract: levels are those of a sound catalogue, so they end at 63.
-use Prim.Native.Nat.{_+_, _<_}
 use native.Mathlib.Omega.{arith}
 use mathlib.Core.Path.{_≡_, sym, _∙_}
 use Rattle.meaning.specs.Catalogue.{catalogueOf}

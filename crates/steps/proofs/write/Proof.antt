@@ -1,7 +1,7 @@
 -- `steps::write` meets its contract. The invariant: the n marked ranks below v stand as cells from `at` on, and nothing
 -- else has changed.
 use Prim.Native.Nat.{_≤_, _<_, _+_, _-_, zero-le}
-use mathlib.Core.Path.{_≡_, refl, sym, ap, _∙_}
+use mathlib.Core.Path.{_≡_, refl, ap, _∙_}
 use mathlib.Core.Logic.{⊎-elim}
 use mathlib.Core.List.{map}
 use native.Mathlib.Omega.{arith}

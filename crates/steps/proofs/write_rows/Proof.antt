@@ -1,7 +1,7 @@
 -- `steps::write_rows` meets its contract. The invariant: the rows of the n marked ranks below v stand from `at` on, and
 -- nothing else has changed.
 use Prim.Native.Nat.{_≤_, _<_, _+_, _*_, _-_, zero-le}
-use mathlib.Core.Path.{_≡_, refl, sym, ap, _∙_}
+use mathlib.Core.Path.{_≡_, refl, ap, _∙_}
 use mathlib.Core.List.{List}
 use mathlib.Core.Logic.{⊎-elim}
 use native.Mathlib.Omega.{arith}

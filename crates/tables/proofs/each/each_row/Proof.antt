@@ -1,7 +1,7 @@
 -- `tables::each::each_row` meets its contract. The invariant: what the task makes of the rows before a is laid (`Laying`). The
 -- measure is how many rows are left.
-use Prim.Native.Nat.{ℕ, _+_, _-_, _*_, _≤_, _<_}
-use mathlib.Core.Path.{_≡_, refl, sym, _∙_, subst}
+use Prim.Native.Nat.{_+_, _-_, _*_, _≤_}
+use mathlib.Core.Path.{_≡_, sym, _∙_, subst}
 use native.Mathlib.Omega.{arith}
 use lib.ListN.{length}
 use Rattle.laws.specs.Rows.{row, rowsAt}

@@ -1,17 +1,16 @@
 -- `tables::each::settles` meets its contract. The invariant: the rows from a on settle exactly where all do. The measure is how
 -- many rows are left.
-use Prim.Native.Nat.{ℕ, _+_, _-_, _*_, _≤_}
-use mathlib.Core.Path.{_≡_, refl, sym, ap, _∙_}
+use Prim.Native.Nat.{_+_, _-_, _*_, _≤_}
+use mathlib.Core.Path.{_≡_, refl, sym, _∙_}
 use native.Mathlib.Omega.{arith}
 use lib.ListN.{length}
 use borrow.Author.Tests.{not-true, not-false}
 use Rattle.laws.specs.Lists.{all}
-use Rattle.laws.specs.Rows.{row, rowsAt}
+use Rattle.laws.specs.Rows.{rowsAt}
 use Rattle.meaning.specs.Catalogue.{catalogueOf}
 use Rattle.tables.specs.Layout.{tableAt, Inside}
 use Rattle.tables.specs.Tasks.{settling}
 use Rattle.tables.proofs.Unrolled.{past-first, all-failed, all-next, all-none}
-use borrow.Author.Needs.{needs}
 use Rattle.tables.proofs.each.settles.Statement.{statement}
 use Rattle.tables.proofs.each.settles.Tie as tie
 

@@ -1,13 +1,9 @@
 -- `tables::each::settles_row` meets its contract, task by task.
 use Prim.Native.Nat.{_<_}
-use mathlib.Core.Path.{_≡_, sym, ap, ap₂, _∙_}
+use mathlib.Core.Path.{sym, ap, ap₂, _∙_}
 use native.Mathlib.Omega.{arith}
 use mir.Facts.{toZ-ofZ}
-use Rattle.laws.specs.Rows.{row}
-use Rattle.meaning.specs.Catalogue.{catalogueOf}
-use Rattle.meaning.specs.Operators.{cell}
 use Rattle.meaning.specs.World as World
-use Rattle.items.specs.Answers.{tried}
 use Rattle.tables.specs.Tasks.{succeeds, settling, Worked}
 use Rattle.tables.proofs.Columns.{cell-read}
 use Rattle.tables.proofs.Tasks.{task-worked, task-settling, settling-rest}

@@ -1,7 +1,7 @@
 -- `tables::join::join_row` meets its contract. The invariant: the rows of s before b are joined and laid (`Laying`). The measure
 -- is how many rows of s are left.
-use Prim.Native.Nat.{ℕ, _+_, _-_, _*_, _≤_, _<_}
-use mathlib.Core.Path.{_≡_, refl, sym, _∙_, subst}
+use Prim.Native.Nat.{_+_, _-_, _*_, _≤_}
+use mathlib.Core.Path.{_≡_, sym, _∙_, subst}
 use native.Mathlib.Omega.{arith}
 use lib.ListN.{length}
 use Rattle.laws.specs.Rows.{row, rowsAt}

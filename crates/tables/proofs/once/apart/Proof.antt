@@ -1,6 +1,6 @@
 -- `tables::once::apart` meets its contract. The invariant: the rows that are left hold no cell twice exactly where all do. The measure
 -- is how many rows are left.
-use Prim.Native.Nat.{ℕ, _+_, _-_, _*_, _≤_, _<_}
+use Prim.Native.Nat.{_+_, _-_, _*_, _≤_}
 use mathlib.Core.Path.{_≡_, refl, sym, _∙_}
 use native.Mathlib.Omega.{arith}
 use lib.IntN.{pos}
@@ -13,7 +13,6 @@ use Rattle.meaning.specs.Operators.{column, once}
 use Rattle.tables.specs.Layout.{tableAt, Inside}
 use Rattle.tables.proofs.Unrolled.{past-first}
 use Rattle.tables.proofs.Cells.{same-cell, once-again, once-next, once-none}
-use borrow.Author.Needs.{needs}
 use Rattle.tables.proofs.once.apart.Statement.{statement}
 use Rattle.tables.proofs.once.apart.Tie as tie
 

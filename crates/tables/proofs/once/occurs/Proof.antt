@@ -1,6 +1,6 @@
 -- `tables::once::occurs` meets its contract. The invariant: the cell stands in the rows that are left exactly where it stands in all.
 -- The measure is how many rows are left.
-use Prim.Native.Nat.{ℕ, _+_, _-_, _*_, _≤_, _<_}
+use Prim.Native.Nat.{_+_, _-_, _*_, _≤_}
 use mathlib.Core.Path.{_≡_, refl, sym, ap, _∙_}
 use native.Mathlib.Omega.{arith}
 use lib.IntN.{pos}

@@ -1,6 +1,6 @@
 -- `tables::once::rises` meets its contract. The invariant: the rows that are left rise exactly where all do. The measure is how many
 -- rows are left.
-use Prim.Native.Nat.{ℕ, _+_, _-_, _*_, _≤_, _<_}
+use Prim.Native.Nat.{_+_, _-_, _*_, _≤_}
 use mathlib.Core.Path.{_≡_, refl, sym, ap₂, _∙_}
 use native.Mathlib.Omega.{arith}
 use lib.IntN.{pos}

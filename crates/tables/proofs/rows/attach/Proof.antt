@@ -1,14 +1,8 @@
 -- `tables::rows::attach` meets its contract: the row is copied, and one cell stands behind it.
-use Prim.Native.Nat.{ℕ, suc, _+_, _-_, _≤_, _<_}
-use mathlib.Core.Path.{_≡_, refl, sym, ap, _∙_}
-use mathlib.Core.List.{List, [], _∷_, _++_}
+use Prim.Native.Nat.{_-_}
 use native.Mathlib.Omega.{arith}
-use lib.IntN.{ℤ, pos}
-use lib.ListN.{length, set}
 use mir.Facts.{toZ-ofZ}
 use borrow.Author.Needs.{needs}
-use Rattle.laws.specs.Rows.{row, laid}
-use Rattle.laws.proofs.Rows.{length-row, length-snoc, set-more}
 use Rattle.tables.proofs.Promise.{attached-full, attached-laid}
 use Rattle.tables.proofs.rows.attach.Statement.{statement}
 use Rattle.tables.proofs.rows.attach.Tie as tie

@@ -1,13 +1,8 @@
 -- `tables::rows::keep` meets its contract: the row is copied where there is room for it.
-use Prim.Native.Nat.{ℕ, suc, _+_, _-_, _≤_, _<_}
-use mathlib.Core.Path.{_≡_, refl, sym, ap, _∙_}
-use mathlib.Core.List.{List, [], _∷_, _++_}
+use Prim.Native.Nat.{_-_}
 use native.Mathlib.Omega.{arith}
-use lib.IntN.{ℤ, pos}
-use lib.ListN.{length}
 use borrow.Author.Needs.{needs}
-use Rattle.laws.specs.Rows.{row, laid}
-use Rattle.laws.proofs.Rows.{length-row, length-laid}
+use Rattle.laws.proofs.Rows.{length-row}
 use Rattle.tables.proofs.Promise.{one-full, one-laid}
 use Rattle.tables.proofs.rows.keep.Statement.{statement}
 use Rattle.tables.proofs.rows.keep.Tie as tie

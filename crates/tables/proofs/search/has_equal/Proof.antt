@@ -1,7 +1,7 @@
 -- `tables::search::has_equal` meets its contract. The search: from the row at b on, some row is equal exactly where one of the
 -- whole table is. The comparison: from cell i on, the two rows are equal exactly where they are. The measures are the rows
 -- and the cells that are left.
-use Prim.Native.Nat.{ℕ, _+_, _-_, _*_, _≤_, _<_}
+use Prim.Native.Nat.{_+_, _-_, _*_, _≤_}
 use mathlib.Core.Path.{_≡_, refl, sym, ap, ap₂, _∙_}
 use mathlib.Core.Logic.{⊎-elim}
 use borrow.Author.Tests.{not-true, not-false, le-ltb, lt-ltb}

@@ -1,5 +1,5 @@
 -- `tables::whole::root` meets its contract: no row, no root, or the root attached to every row.
-use mathlib.Core.Path.{_≡_, refl, sym, _∙_, ap}
+use mathlib.Core.Path.{refl, sym, _∙_, ap}
 use native.Mathlib.Omega.{arith}
 use mir.Syntax.{w64}
 use mir.Val.{SFits}

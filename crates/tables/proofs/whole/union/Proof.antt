@@ -1,6 +1,6 @@
 -- `tables::whole::union` meets its contract: one table, then the other.
-use Prim.Native.Nat.{ℕ, _+_, _*_, _≤_}
-use mathlib.Core.Path.{_≡_, refl, sym, _∙_, ap, subst}
+use Prim.Native.Nat.{_+_, _*_, _≤_}
+use mathlib.Core.Path.{refl, sym, ap, subst}
 use native.Mathlib.Omega.{arith}
 use Rattle.meaning.specs.Attempt.{gives}
 use Rattle.tables.specs.declared.Laid.the-variants.{Rows}
