@@ -6,20 +6,21 @@
 --     one-below                  what stands n below -1
 --     low-bits, high-bits        how code makes a signed number of a pattern of either half
 --     high-low, high-fits        what it makes on the way fits the width
+--     bits-below, bits-from      the bits of a number below 0, counted down from -1, and of one from 0 on
 --     bits-same                  two numbers of a width have the same bits exactly where they are the same
 use mathlib.Core.Path.{_≡_, refl, sym, _∙_, ap, subst}
 use Prim.Native.Nat.{ℕ, zero, suc, _+_, _-_, _^_, _<_, _≤_}
 use native.Mathlib.Nat.{zero-add}
 use native.Mathlib.Omega.{arith}
-use mathlib.Core.Bool.{Bool, true, false}
+use mathlib.Core.Bool.{Bool, true, false, true≢false}
 use lib.Dec.{ltb, eqb}
 use lib.IntN.{ℤ, pos, negsuc, _-ℤ_}
-use lib.Signed.{mag}
+use lib.Signed.{mag, ltZ}
 use mir.Syntax.{Width, w8, w16, w32, w64, w128}
 use mir.Val.{bits, hbits, ofZ, toZ, SFits}
 use mir.Facts.{toZ-pos, toZ-ofZ}
-use borrow.Author.Tests.{lt-ltb, le-ltb, ne-eqb, ltb-true, ltb-false}
-use Rattle.cells.specs.Bytes.{signed}
+use borrow.Author.Tests.{lt-ltb, le-ltb, ne-eqb, ltb-true, ltb-false, lt-leb}
+use Rattle.cells.specs.Bytes.{signed, bits8}
 use Rattle.cells.specs.Cell.{same}
 use Rattle.cells.proofs.Tests.{eqb-same}
 
@@ -78,3 +79,22 @@ bits-same w (pos a) (negsuc b) h k = ne-eqb a _ (omega (arith, twice-half w, h .
 bits-same w (negsuc a) (pos b) h k = ne-eqb _ b (omega (arith, twice-half w, h .sfits, k .sfits))
 bits-same w (negsuc a) (negsuc b) h k =
     eqb-same _ _ a b (λ e. omega (arith, twice-half w, h .sfits, k .sfits)) (λ e. ap (λ (n : ℕ). 2 ^ bits w - suc n) e)
+
+one-above : (n : ℕ) → negsuc 0 -ℤ negsuc n ≡ pos n
+one-above n =
+    let e : suc n - 1 ≡ n = omega arith in
+    rw (lt-leb (suc (suc n)) 1 (omega arith)) (ap pos e)
+
+pub bits-below :
+    (z : ℤ) → ltZ z (pos 0) ≡ true → mag z < 2 ^ 63 →
+    (n : ℕ) × (negsuc 0 -ℤ z ≡ pos n) × (n < 2 ^ 63) × (0xffff_ffff_ffff_ffff - n ≡ bits8 z)
+unfolding bits8
+bits-below (pos n) e h =
+    let k : n < 0 = ltb-true n 0 e in
+    absurd (omega arith)
+bits-below (negsuc n) e h = (n, one-above n, h, refl)
+
+pub bits-from : (z : ℤ) → ltZ z (pos 0) ≡ false → mag z < 2 ^ 63 → (n : ℕ) × (z ≡ pos n) × (n < 2 ^ 63) × (n ≡ bits8 z)
+unfolding bits8
+bits-from (pos n) e h = (n, refl, h, refl)
+bits-from (negsuc n) e h = absurd (true≢false e)

@@ -137,6 +137,17 @@ pub fn int8(s: &[u8], at: usize) -> i64
     }
 }
 
+// The 64 bits of a cell, as a number.
+pub fn bits_of(cell: i64) -> usize
+    ensures { λ r. ⌜ r ≡ Bytes.bits8 cell ⌝ }
+{
+    if cell < 0 {
+        0xffff_ffff_ffff_ffff - ((-1 - cell) as usize)
+    } else {
+        cell as usize
+    }
+}
+
 // Equality of cells.
 pub fn same(a: i64, b: i64) -> bool
     ensures { λ r. ⌜ r ≡ Cell.same a b ⌝ }

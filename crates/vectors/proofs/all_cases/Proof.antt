@@ -14,8 +14,8 @@ abbrev μ-loop : tie.MeasureT-loop
 loop-holds : tie.Need-loop-holds Inv-loop μ-loop
 loop-holds c = refl
 
-next-call-requires : tie.Need-next-call-requires Inv-loop μ-loop
-next-call-requires c κs = search needs
+next-byte-requires : tie.Need-next-byte-requires Inv-loop μ-loop
+next-byte-requires c κs = search needs
 
 same-length : tie.Need-same-length Inv-loop μ-loop
 same-length c = search needs
@@ -48,7 +48,7 @@ all-cases-spec =
     Inv-loop
     μ-loop
     loop-holds
-    next-call-requires
+    next-byte-requires
     same-length
     returns
     one-case-requires

@@ -1,0 +1,57 @@
+-- `clear` meets its contract: zeros from i on give what zeros from `from` on give.
+use Prim.Native.Nat.{_-_, _≤_}
+use mathlib.Core.Path.{_≡_, refl, sym, _∙_}
+use native.Mathlib.Omega.{arith}
+use lib.ListN.{length, take, length-set}
+use Rattle.meaning.specs.Calls.{padded}
+use Rattle.writing.proofs.Penned.{cleared-more, cleared-all}
+use borrow.Author.Needs.{needs}
+use Rattle.writing.proofs.clear.Statement.{statement}
+use Rattle.writing.proofs.clear.Tie as tie
+
+abbrev Inv-loop : tie.InvT-loop
+Inv-loop plan₀ from i₀ plan i =
+    (length plan ≡ length plan₀) × (padded 0 (length plan₀) (take i plan) ≡ padded 0 (length plan₀) (take from plan₀))
+
+abbrev μ-loop : tie.MeasureT-loop
+μ-loop plan₀ from i₀ plan i = length plan₀ - i
+
+loop-holds : tie.Need-loop-holds Inv-loop μ-loop
+loop-holds c = (refl, refl)
+
+slice-write-plan : tie.Need-slice-write-plan Inv-loop μ-loop
+slice-write-plan c = search needs
+
+add-i : tie.Need-add-i Inv-loop μ-loop
+add-i c = search needs
+
+loop-less : tie.Need-loop-less Inv-loop μ-loop
+loop-less c = search needs
+
+loop-again : tie.Need-loop-again Inv-loop μ-loop
+loop-again c =
+    let inv = c .before .loop .inv in
+    (simp length-set (inv .0), cleared-more _ 0 _ _ (c .loop-test .taken) (inv .0) ∙ inv .1)
+
+same-length : tie.Need-same-length Inv-loop μ-loop
+same-length c = search needs
+
+returns : tie.Need-returns Inv-loop μ-loop
+returns c =
+    let inv = c .before .loop .inv in
+    let past : length (c .before .before .args .plan .now) ≤ c .before .loop .i = omega arith in
+    sym (cleared-all _ 0 _ _ past (inv .0)) ∙ inv .1
+
+pub clear-spec : {M : Type 1} → statement M
+clear-spec =
+    tie.close
+    (tie.spec
+    Inv-loop
+    μ-loop
+    loop-holds
+    slice-write-plan
+    add-i
+    loop-less
+    loop-again
+    same-length
+    returns)

@@ -1,0 +1,376 @@
+// Writing the records of a plan over lent bytes. Each function takes the position to write at and gives the position after. It runs
+// on past the lent end, and what does not fit is not written. No function loops but `clear`.
+use cells::Axis;
+use cells::Function;
+use cells::Test;
+ghost use mathlib.Core.Path.{_≡_};
+ghost use mathlib.Core.List.{[], _∷_, _++_};
+ghost use Prim.Native.Nat.{_+_, _^_, _<_};
+ghost use lib.ListN.{length, take};
+ghost use Rattle.cells.specs.Bytes.{bytesOf, bits8};
+ghost use Rattle.meaning.specs.Plan.{RT, RA, RP, RU, RD, RS, RJ, RN, RF, RV, RC, RE, RK, RX, RO};
+ghost use Rattle.meaning.specs.Written.{operatorBytes, functionNumber, axisNumber, testNumber, testName};
+ghost use Rattle.meaning.specs.Calls.{padded};
+ghost use Rattle.writing.specs.Penned.{Pens};
+ghost use Rattle.writing.specs.Listed.{columnsOf, keysOf};
+
+// The columns of a projection: the rules of the translation name one to four.
+pub enum Columns {
+    One(u8),
+    Two(u8, u8),
+    Three(u8, u8, u8),
+    Four(u8, u8, u8, u8),
+}
+
+// The keys of a numbering.
+pub enum Keys {
+    One(u8),
+    Two(u8, u8),
+}
+
+// Writes one byte, where there is room for it.
+pub fn put(plan: &mut [u8], at: usize, byte: u8) -> usize
+    requires { ⌜ at + 1 < 2 ^ 64 ⌝ }
+    ensures { λ r. ⌜ Pens at (byte ∷ []) (now (plan .entry)) (now (plan .exit)) r ⌝ }
+{
+    if plan.len() <= at {
+        return at + 1;
+    }
+    plan[at] = byte;
+    at + 1
+}
+
+// Writes the last two bytes of a number, the higher first.
+pub fn put2(plan: &mut [u8], at: usize, number: usize) -> usize
+    requires { ⌜ at + 2 < 2 ^ 64 ⌝ }
+    ensures { λ r. ⌜ Pens at (bytesOf 2 number) (now (plan .entry)) (now (plan .exit)) r ⌝ }
+{
+    let low = put(plan, at, (number / 256 % 256) as u8);
+    put(plan, low, (number % 256) as u8)
+}
+
+// Writes the last four bytes of a number.
+fn put4(plan: &mut [u8], at: usize, number: usize) -> usize
+    requires { ⌜ at + 4 < 2 ^ 64 ⌝ }
+    ensures { λ r. ⌜ Pens at (bytesOf 4 number) (now (plan .entry)) (now (plan .exit)) r ⌝ }
+{
+    let low = put2(plan, at, number / 0x1_0000);
+    put2(plan, low, number)
+}
+
+// Writes the eight bytes of a cell.
+pub fn put8(plan: &mut [u8], at: usize, cell: i64) -> usize
+    requires { ⌜ at + 8 < 2 ^ 64 ⌝ }
+    ensures { λ r. ⌜ Pens at (bytesOf 8 (bits8 cell)) (now (plan .entry)) (now (plan .exit)) r ⌝ }
+{
+    let number = cells::bits_of(cell);
+    let low = put4(plan, at, number / 0x1_0000_0000);
+    put4(plan, low, number)
+}
+
+// Writes two bytes.
+fn put_pair(plan: &mut [u8], at: usize, a: u8, b: u8) -> usize
+    requires { ⌜ at + 2 < 2 ^ 64 ⌝ }
+    ensures { λ r. ⌜ Pens at (a ∷ b ∷ []) (now (plan .entry)) (now (plan .exit)) r ⌝ }
+{
+    let second = put(plan, at, a);
+    put(plan, second, b)
+}
+
+// Writes three bytes.
+fn put_three(plan: &mut [u8], at: usize, a: u8, b: u8, c: u8) -> usize
+    requires { ⌜ at + 3 < 2 ^ 64 ⌝ }
+    ensures { λ r. ⌜ Pens at (a ∷ b ∷ c ∷ []) (now (plan .entry)) (now (plan .exit)) r ⌝ }
+{
+    let second = put(plan, at, a);
+    put_pair(plan, second, b, c)
+}
+
+// Writes four bytes.
+fn put_four(plan: &mut [u8], at: usize, a: u8, b: u8, c: u8, d: u8) -> usize
+    requires { ⌜ at + 4 < 2 ^ 64 ⌝ }
+    ensures { λ r. ⌜ Pens at (a ∷ b ∷ c ∷ d ∷ []) (now (plan .entry)) (now (plan .exit)) r ⌝ }
+{
+    let third = put_pair(plan, at, a, b);
+    put_pair(plan, third, c, d)
+}
+
+// Writes how many columns there are, then each.
+fn put_columns(plan: &mut [u8], at: usize, columns: Columns) -> usize
+    requires { ⌜ at + 5 < 2 ^ 64 ⌝ }
+    ensures { λ r. ⌜ Pens at (length (columnsOf columns) ∷ columnsOf columns) (now (plan .entry)) (now (plan .exit)) r ⌝ }
+{
+    match columns {
+        Columns::One(a) => put_pair(plan, at, 1, a),
+        Columns::Two(a, b) => put_three(plan, at, 2, a, b),
+        Columns::Three(a, b, c) => put_four(plan, at, 3, a, b, c),
+        Columns::Four(a, b, c, d) => {
+            let first = put(plan, at, 4);
+            put_four(plan, first, a, b, c, d)
+        }
+    }
+}
+
+// Writes how many keys there are, then each.
+fn put_keys(plan: &mut [u8], at: usize, keys: Keys) -> usize
+    requires { ⌜ at + 3 < 2 ^ 64 ⌝ }
+    ensures { λ r. ⌜ Pens at (length (keysOf keys) ∷ keysOf keys) (now (plan .entry)) (now (plan .exit)) r ⌝ }
+{
+    match keys {
+        Keys::One(a) => put_pair(plan, at, 1, a),
+        Keys::Two(a, b) => put_three(plan, at, 2, a, b),
+    }
+}
+
+// The number of a function.
+fn function_number(f: Function) -> u8
+    ensures { λ r. ⌜ r ≡ functionNumber f ⌝ }
+{
+    match f {
+        Function::Add => 1,
+        Function::Subtract => 2,
+        Function::Multiply => 3,
+        Function::Divide => 4,
+        Function::Equal => 5,
+        Function::Less => 6,
+    }
+}
+
+// The number of an axis.
+fn axis_number(axis: Axis) -> u8
+    ensures { λ r. ⌜ r ≡ axisNumber axis ⌝ }
+{
+    match axis {
+        Axis::Child => 1,
+        Axis::Descendant => 2,
+        Axis::DescendantOrSelf => 3,
+        Axis::Itself => 4,
+        Axis::Parent => 5,
+        Axis::Ancestor => 6,
+        Axis::Following => 7,
+        Axis::Preceding => 8,
+    }
+}
+
+// The number of a test.
+fn test_number(test: Test) -> u8
+    ensures { λ r. ⌜ r ≡ testNumber test ⌝ }
+{
+    match test {
+        Test::AnyNode => 0,
+        Test::Element => 1,
+        Test::Text => 2,
+        Test::Named(_) => 3,
+    }
+}
+
+// The name that a test asks for, 0 where it asks for none.
+fn test_name(test: Test) -> usize
+    ensures { λ r. ⌜ r ≡ testName test ⌝ }
+{
+    match test {
+        Test::AnyNode => 0,
+        Test::Element => 0,
+        Test::Text => 0,
+        Test::Named(name) => name,
+    }
+}
+
+// The marks of the operators.
+const RT: usize = 0x5254;
+
+const RA: usize = 0x5241;
+
+const RP: usize = 0x5250;
+
+const RU: usize = 0x5255;
+
+const RD: usize = 0x5244;
+
+const RS: usize = 0x5253;
+
+const RJ: usize = 0x524A;
+
+const RN: usize = 0x524E;
+
+const RF: usize = 0x5246;
+
+const RC: usize = 0x5243;
+
+const RE: usize = 0x5245;
+
+const RK: usize = 0x524B;
+
+const RX: usize = 0x5258;
+
+const RO: usize = 0x524F;
+
+// Writes a mark and the number of a table: what every record but RT opens with.
+fn head(plan: &mut [u8], at: usize, mark: usize, t: usize) -> usize
+    requires { ⌜ at + 4 < 2 ^ 64 ⌝ }
+    ensures { λ r. ⌜ Pens at (bytesOf 2 mark ++ bytesOf 2 t) (now (plan .entry)) (now (plan .exit)) r ⌝ }
+{
+    let table = put2(plan, at, mark);
+    put2(plan, table, t)
+}
+
+// Writes a record of one table and one byte.
+fn with_byte(plan: &mut [u8], at: usize, mark: usize, t: usize, byte: u8) -> usize
+    requires { ⌜ at + 5 < 2 ^ 64 ⌝ }
+    ensures { λ r. ⌜ Pens at (bytesOf 2 mark ++ bytesOf 2 t ++ byte ∷ []) (now (plan .entry)) (now (plan .exit)) r ⌝ }
+{
+    let field = head(plan, at, mark, t);
+    put(plan, field, byte)
+}
+
+// Writes a record of two tables.
+fn with_table(plan: &mut [u8], at: usize, mark: usize, t: usize, u: usize) -> usize
+    requires { ⌜ at + 6 < 2 ^ 64 ⌝ }
+    ensures { λ r. ⌜ Pens at (bytesOf 2 mark ++ bytesOf 2 t ++ bytesOf 2 u) (now (plan .entry)) (now (plan .exit)) r ⌝ }
+{
+    let table = head(plan, at, mark, t);
+    put2(plan, table, u)
+}
+
+// RT: one row, one cell, 1.
+pub fn one(plan: &mut [u8], at: usize) -> usize
+    requires { ⌜ at + 16 < 2 ^ 64 ⌝ }
+    ensures { λ r. ⌜ Pens at (operatorBytes RT) (now (plan .entry)) (now (plan .exit)) r ⌝ }
+{
+    put2(plan, at, RT)
+}
+
+// RA: adds a column of that cell.
+pub fn attach(plan: &mut [u8], at: usize, t: usize, cell: i64) -> usize
+    requires { ⌜ at + 16 < 2 ^ 64 ⌝ }
+    ensures { λ r. ⌜ Pens at (operatorBytes (RA t cell)) (now (plan .entry)) (now (plan .exit)) r ⌝ }
+{
+    let field = head(plan, at, RA, t);
+    put8(plan, field, cell)
+}
+
+// RP: those columns.
+pub fn project(plan: &mut [u8], at: usize, t: usize, columns: Columns) -> usize
+    requires { ⌜ at + 16 < 2 ^ 64 ⌝ }
+    ensures { λ r. ⌜ Pens at (operatorBytes (RP t (columnsOf columns))) (now (plan .entry)) (now (plan .exit)) r ⌝ }
+{
+    let field = head(plan, at, RP, t);
+    put_columns(plan, field, columns)
+}
+
+// RU: rows of t, then u.
+pub fn union(plan: &mut [u8], at: usize, t: usize, u: usize) -> usize
+    requires { ⌜ at + 16 < 2 ^ 64 ⌝ }
+    ensures { λ r. ⌜ Pens at (operatorBytes (RU t u)) (now (plan .entry)) (now (plan .exit)) r ⌝ }
+{
+    with_table(plan, at, RU, t, u)
+}
+
+// RD: rows of t equal to no row of u.
+pub fn minus(plan: &mut [u8], at: usize, t: usize, u: usize) -> usize
+    requires { ⌜ at + 16 < 2 ^ 64 ⌝ }
+    ensures { λ r. ⌜ Pens at (operatorBytes (RD t u)) (now (plan .entry)) (now (plan .exit)) r ⌝ }
+{
+    with_table(plan, at, RD, t, u)
+}
+
+// RS: rows whose column c is true.
+pub fn select(plan: &mut [u8], at: usize, t: usize, c: u8) -> usize
+    requires { ⌜ at + 16 < 2 ^ 64 ⌝ }
+    ensures { λ r. ⌜ Pens at (operatorBytes (RS t c)) (now (plan .entry)) (now (plan .exit)) r ⌝ }
+{
+    with_byte(plan, at, RS, t, c)
+}
+
+// RJ: for each row of t, each row of u with equal cells in columns c and d; both rows joined.
+pub fn join(plan: &mut [u8], at: usize, t: usize, c: u8, u: usize, d: u8) -> usize
+    requires { ⌜ at + 16 < 2 ^ 64 ⌝ }
+    ensures { λ r. ⌜ Pens at (operatorBytes (RJ t c u d)) (now (plan .entry)) (now (plan .exit)) r ⌝ }
+{
+    let field = head(plan, at, RJ, t);
+    let table = put(plan, field, c);
+    let last = put2(plan, table, u);
+    put(plan, last, d)
+}
+
+// RN: rows in rising order by column p (255: none), then the keys; adds a column counting from 1 within equal p.
+pub fn number(plan: &mut [u8], at: usize, t: usize, p: u8, keys: Keys) -> usize
+    requires { ⌜ at + 16 < 2 ^ 64 ⌝ }
+    ensures { λ r. ⌜ Pens at (operatorBytes (RN t p (keysOf keys))) (now (plan .entry)) (now (plan .exit)) r ⌝ }
+{
+    let field = head(plan, at, RN, t);
+    let list = put(plan, field, p);
+    put_keys(plan, list, keys)
+}
+
+// RF: adds a function of two cells.
+pub fn apply(plan: &mut [u8], at: usize, t: usize, f: Function, c: u8, d: u8) -> usize
+    requires { ⌜ at + 16 < 2 ^ 64 ⌝ }
+    ensures { λ r. ⌜ Pens at (operatorBytes (RF t f c d)) (now (plan .entry)) (now (plan .exit)) r ⌝ }
+{
+    let field = head(plan, at, RF, t);
+    let number = function_number(f);
+    put_three(plan, field, number, c, d)
+}
+
+// RF with function 7: adds the value of one cell.
+pub fn value(plan: &mut [u8], at: usize, t: usize, c: u8) -> usize
+    requires { ⌜ at + 16 < 2 ^ 64 ⌝ }
+    ensures { λ r. ⌜ Pens at (operatorBytes (RV t c)) (now (plan .entry)) (now (plan .exit)) r ⌝ }
+{
+    let field = head(plan, at, RF, t);
+    put_pair(plan, field, 7, c)
+}
+
+// RC: how many rows hold each cell of column c.
+pub fn counts(plan: &mut [u8], at: usize, t: usize, c: u8) -> usize
+    requires { ⌜ at + 16 < 2 ^ 64 ⌝ }
+    ensures { λ r. ⌜ Pens at (operatorBytes (RC t c)) (now (plan .entry)) (now (plan .exit)) r ⌝ }
+{
+    with_byte(plan, at, RC, t, c)
+}
+
+// RE: the truth of each group.
+pub fn truths(plan: &mut [u8], at: usize, t: usize) -> usize
+    requires { ⌜ at + 16 < 2 ^ 64 ⌝ }
+    ensures { λ r. ⌜ Pens at (operatorBytes (RE t)) (now (plan .entry)) (now (plan .exit)) r ⌝ }
+{
+    head(plan, at, RE, t)
+}
+
+// RK: t, where no cell of column c occurs twice.
+pub fn once(plan: &mut [u8], at: usize, t: usize, c: u8) -> usize
+    requires { ⌜ at + 16 < 2 ^ 64 ⌝ }
+    ensures { λ r. ⌜ Pens at (operatorBytes (RK t c)) (now (plan .entry)) (now (plan .exit)) r ⌝ }
+{
+    with_byte(plan, at, RK, t, c)
+}
+
+// RX: a step from the nodes of each group.
+pub fn step(plan: &mut [u8], at: usize, t: usize, axis: Axis, test: Test) -> usize
+    requires { ⌜ at + 16 < 2 ^ 64 ⌝ }
+    ensures { λ r. ⌜ Pens at (operatorBytes (RX t axis test)) (now (plan .entry)) (now (plan .exit)) r ⌝ }
+{
+    let field = head(plan, at, RX, t);
+    let name = put_pair(plan, field, axis_number(axis), test_number(test));
+    put2(plan, name, test_name(test))
+}
+
+// RO: adds the root of fragment k.
+pub fn root(plan: &mut [u8], at: usize, t: usize, k: u8) -> usize
+    requires { ⌜ at + 16 < 2 ^ 64 ⌝ }
+    ensures { λ r. ⌜ Pens at (operatorBytes (RO t k)) (now (plan .entry)) (now (plan .exit)) r ⌝ }
+{
+    with_byte(plan, at, RO, t, k)
+}
+
+// Zeroes every byte from `from` on.
+pub fn clear(plan: &mut [u8], from: usize)
+    ensures { λ r. ⌜ now (plan .exit) ≡ padded 0 (length (now (plan .entry))) (take from (now (plan .entry))) ⌝ }
+{
+    let mut i = from;
+    while i < plan.len() {
+        plan[i] = 0;
+        i += 1;
+    }
+}
