@@ -55,9 +55,14 @@ def translations():
     for nested in (1, 20):
         yield from bytes_around(f"{nested} nested for with eight variables", q.lifted_by_for(nested))
     yield from bytes_around("19 and 5 nested for", q.sequence(q.lifted_by_for(19), q.lifted_by_for(5)))
-    for name, query_bytes in q.scopes():
-        yield name, (query_bytes, 400)
+    for family in (q.scopes, q.shadowing, q.eight_variables):
+        for name, query_bytes in family():
+            yield name, (query_bytes, bytes_needed(query_bytes) + 2)
+    for operators in range(515, 608, 4):
+        yield f"{operators} operators", (q.of_operators(operators), 20)
     yield "far more bytes than needed", (q.TRUE, 7000)
+    for query_bytes in (examples.TEN, q.EXAMPLE, q.of_operators(512)):
+        yield "6,144 bytes lent", (query_bytes, chartask.PLAN_BYTES)
 
 
 # run
@@ -80,6 +85,11 @@ def runs():
         yield f"{name}, an unsound catalogue", (plan_bytes, UNSOUND_DOC, 9)
         yield f"{name}, cut, and an unsound catalogue", (plan_bytes[:-1], UNSOUND_DOC, 9)
         yield f"{name}, no rows", (plan_bytes, b"", 300)
+        yield f"{name}, 8,192 cells lent", (plan_bytes, DOC, chartask.WORK_CELLS)
+    for family in (q.shadowing, q.eight_variables):
+        for name, query_bytes in family():
+            plan_bytes = plan_of(query_bytes)
+            yield name, (plan_bytes, DOC, cells_needed(plan_bytes, DOC) + 2)
     yield "no plan, no room", (b"", b"", 0)
     yield "no plan, an unsound catalogue", (b"", UNSOUND_DOC, 2)
 
@@ -90,6 +100,7 @@ def long_runs():
         for lent in lents:
             yield f"{cells} cells, {lent} lent", (p.filling(cells), b"", lent)
     yield "rank 2,047", (plan_of(LAST_OF_FULL), FULL, 100)
+    yield from cells_around("512 operators of a query", plan_of(q.of_operators(512)), b"")
 
 
 # evaluate
@@ -112,6 +123,9 @@ def evaluations():
     for family in (q.fields, q.step_fields, q.scopes, q.functions, q.sides, q.conditions, q.all_values, q.all_steps):
         for name, query_bytes in family():
             yield name, (query_bytes, TWO, 70)
+    for family in (q.shadowing, q.eight_variables):
+        for name, query_bytes in family():
+            yield name, (query_bytes, DOC, 40)
     for name, query_bytes in q.standing():
         for lent in range(9):
             yield f"{name}, {lent} cells lent", (query_bytes, DOC, lent)
@@ -126,6 +140,10 @@ def long_evaluations():
     for items, lents in ((65536, (65535, 65536, 65600)), (65537, (65536, 65600))):
         for lent in lents:
             yield f"{items} items, {lent} lent", (q.filling(items), b"", lent)
+    for items in (1, 2, 3):
+        for lent in (8191, 8192, 8193):
+            query_bytes = q.standing_alone(26, q.sequence(*[q.literal(5)] * items))
+            yield f"{26 * 315 + items} items, {lent} lent", (query_bytes, c.written(c.one_fragment(315)), lent)
     whole = q.count(q.step(q.DESCENDANT_OR_SELF, 0, 0, q.root(1)))
     for lent in (2048, 2049):
         yield f"2,048 nodes, {lent} lent", (whole, FULL, lent)
@@ -156,12 +174,31 @@ def long_printings():
     for operators in (512, 513):
         yield f"{operators} operators", (b"", q.of_operators(operators))
     yield "64 literals", (b"", q.wide(127))
-    for cells in (chartask.WORK_CELLS - 1, chartask.WORK_CELLS, chartask.WORK_CELLS + 1):
+    for cells in range(chartask.WORK_CELLS - 6, chartask.WORK_CELLS + 7):
         yield f"{cells} cells", (b"", query_of_cells(cells))
     for rows in (2048, 2049, 2050):
         yield f"{rows} fragments", (c.row(0, 0, 1, 1) * rows, q.root(255))
+    yield from lacking_room()
     yield "a query of 1,100 bytes", (b"", q.NOTHING + b"\0" * 1098)
     yield "a query of 1,100 bytes, no end", (b"", b"QC" * 550)
+
+
+def lacking_room():
+    """Either engine by itself, and both, short of 8,192 cells; and one short where the other fails."""
+    doc = c.written(c.one_fragment(315))
+    for items in (1, 2, 3):
+        body = q.sequence(*[q.literal(5)] * items)
+        yield f"{26 * 315 + items} items stand", (doc, q.standing_alone(26, body))
+        yield f"{26 * 315 + items} items stand in a for", (doc, q.standing_alone(26, q.each(2, q.literal(5), body)))
+        yield f"{26 * 315 + items} items stand in a count", (doc, q.standing_alone(26, q.count(body)))
+        yield f"{26 * 315 + items} items stand in a branch", (doc, q.standing_alone(26, q.choose(body, body, body)))
+    yield "the evaluator lacks room, then a failure", (doc, q.standing_alone(27, q.FAILING))
+    yield "a failure before the evaluator lacks room", (doc, q.let(2, q.FAILING, q.standing_alone(27, q.NOTHING)))
+    many = q.doubled(12, q.count(q.variable(0)))
+    yield "both lack room", (doc, many)
+    yield "the runner lacks room", (doc, q.doubled(9, q.count(q.variable(0))))
+    yield "the runner lacks room, then a failure", (b"", q.doubled(9, q.FAILING))
+    yield "128 items", (b"", q.doubled(7, q.variable(0)))
 
 
 FAMILIES = {"check_catalogue": (catalogues,), "check_query": (queries,), "translate": (translations,),

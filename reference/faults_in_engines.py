@@ -229,6 +229,17 @@ def same_loop(to, loop, then_loop, truths):
     return to.minus(then_loop, loop)
 
 
+@fault("both branches worked out for everybody, then chosen", "agreement", translator.RULES, b"QI")
+def both_for_everybody(to, expression, loop, tables):
+    c, a, b = expression.operands
+    truths = to.add(b"RE", to.expression(c, loop, tables))
+    then = to.project(to.add(b"RS", truths, 1), 0)
+    otherwise = to.minus(loop, then)
+    whole = [to.expression(branch, loop, tables) for branch in (a, b)]
+    kept = [to.project(to.join(t, 0, part, 0), 0, 1, 2) for t, part in zip(whole, (then, otherwise))]
+    return to.union(*kept)
+
+
 @fault("branches see unlifted variables", "agreement", translator, "branch")
 def unlifted(to, expression, loop, tables):
     return to.expression(expression, loop, tables)

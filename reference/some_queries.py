@@ -402,6 +402,14 @@ def filling(items):
     return doubled(14, count(body))
 
 
+def standing_alone(lets, body):
+    """The nodes of fragment 1 under so many `let`, which add to what stands and to no table; then the body."""
+    query = body
+    for _ in range(lets - 1):
+        query = let(1, variable(0), query)
+    return let(0, step(DESCENDANT_OR_SELF, 0, 0, root(1)), query)
+
+
 # Each record by itself, sound with these operands.
 SMALLEST = {b"QL": literal(0), b"QB": TRUE, b"QE": NOTHING, b"QR": root(1), b"QV": let(0, NOTHING, variable(0)),
             b"QS": sequence(NOTHING, NOTHING), b"QT": let(0, NOTHING, NOTHING), b"QF": each(0, NOTHING, NOTHING),
@@ -454,6 +462,54 @@ def scopes():
         yield f"{word}: an unbound variable, then a bad record", record(0, literal(1), sequence(variable(1), b"QZ"))
         yield f"{word}: a bad record, then an unbound variable", record(0, b"QZ", variable(1))
     yield "a variable alone", variable(0)
+
+
+def around(part):
+    """The part in every place that an operand can have, beside variable 0."""
+    seen = variable(0)
+    yield "alone", part
+    yield "first of a sequence", sequence(part, seen)
+    yield "second of a sequence", sequence(seen, part)
+    yield "in a condition", choose(count(part), seen, literal(9))
+    yield "in the then-branch", choose(TRUE, part, seen)
+    yield "in the else-branch", choose(FALSE, seen, part)
+    yield "in both branches", choose(count(seen), sequence(part, seen), part)
+    yield "in the first side", operate(ADD, count(part), count(seen))
+    yield "in the second side", operate(SUBTRACT, count(seen), count(part))
+    yield "under a count", count(part)
+    yield "under values", values(part)
+    yield "under a step", step(SELF, 0, 0, choose(count(part), root(1), NOTHING))
+    for record in (let, each):
+        for v in (0, 1):
+            word = f"{record.__name__} {v}"
+            yield f"in the a of {word}", record(v, part, sequence(seen, variable(v)))
+            yield f"in the b of {word}", record(v, seen, sequence(part, seen, variable(v)))
+
+
+def shadowing():
+    """'an inner binding hides an outer one', let and for, in every place; binding 1 instead hides nothing."""
+    two = sequence(literal(1), literal(2))
+    for outer in (let, each):
+        for inner in (let, each):
+            for w in (0, 1):
+                part = inner(w, sequence(variable(0), literal(3)), sequence(variable(w), variable(0)))
+                for place, body in around(part):
+                    yield f"{outer.__name__} 0, in it {inner.__name__} {w} {place}", outer(0, two, body)
+
+
+def eight_variables():
+    """All eight variables, lifted by each form that lifts and hidden by each that binds."""
+    for v in range(8):
+        others = balanced([variable(u) for u in range(8) if u != v])
+        for name, inner in ((f"for {v} of itself, all eight in its body", each(v, variable(v), ALL_EIGHT)),
+                            (f"for {v}, the others in its body", each(v, variable(v), others)),
+                            (f"for {v}, its body alone in a let", let(v, each(v, others, variable(v)), ALL_EIGHT)),
+                            (f"let {v} of all eight", let(v, ALL_EIGHT, ALL_EIGHT)),
+                            (f"if {v}, then the others, else itself", choose(variable(v), others, variable(v))),
+                            (f"if {v}, nothing lifted", choose(variable(v), literal(1), NOTHING)),
+                            (f"only {v} lifted, through for and if",
+                             each((v + 1) % 8, others, choose(variable(v), variable(v), NOTHING)))):
+            yield name, with_eight_variables(inner)
 
 
 # What may stand where a 129th record or one at depth 33 would.

@@ -1,52 +1,157 @@
-"""Writes the cases that crates/vectors is run on, and what it must print.
+"""Writes the cases that the project's programs are run on, and what each must print.
 
-    python3 reference/vectors.py
+    python3 reference/vectors.py                the two checks, crates/vectors
+    python3 reference/vectors.py evaluate       crates/evaluations; likewise run, translate and chartask
+    python3 reference/vectors.py all            all of these
+    python3 reference/vectors.py faults         plants the faults and tries them on the files as they stand
 
-A case in data/cases.bin is a byte for the call, then each byte string that the call is given, its
-length (2 bytes) before it. What the program must print is a line a case, from the model alone.
+How the files are laid out is said in stored.py. What must be printed is the model's alone.
 """
 
-import pathlib
+import random
 import sys
 
 sys.dont_write_bytecode = True
 
+import at_bounds
+import faults
+import faults_in_engines  # each of the three notes its faults
+import faults_in_meaning
+import faults_in_readers
 import generate
+import query
+import some_queries
+import stored
+from chartask import DOC_BYTES, QUERY_BYTES
+from rooms import bytes_needed, cells_needed, items_needed
 
 SEED = 7
-CRATE = pathlib.Path(__file__).resolve().parent.parent / "crates" / "vectors"
 
-# The call's byte, and how many cases are drawn beside those at a bound.
-CALLS = {"check_catalogue": (1, 1800), "check_query": (2, 2400)}
-
-
-def stored(case):
-    """The case as it is kept."""
-    number, _ = CALLS[case.call]
-    parts = [bytes([number])]
-    for given in case.given:
-        parts.append(len(given).to_bytes(2, "big") + given)
-    return b"".join(parts)
+# How many are drawn beside the cases at a bound; where something is lent, each is tried with several lengths.
+DRAWN = {"check_catalogue": 1800, "check_query": 2400, "evaluate": 1000, "run": 900, "translate": 860,
+         "chartask": 1990}
 
 
-def line(case):
-    """What the program prints of the case: the answer's figures, or the refusal and its place."""
-    word = {"check_catalogue": "catalogue rows", "check_query": "query records"}[case.call]
-    answer = case.answer
-    if answer.refusal:
-        return f"{word.split()[0]} refused {answer.refusal} at {answer.place}"
-    return f"{word} {answer.rows if case.call == 'check_catalogue' else answer.records}"
+def lent_lengths(rng, needed):
+    """One less than needed, enough, one more; and any below, where the place of a refusal moves."""
+    return sorted({rng.randint(0, needed), max(needed - 1, 0), needed, needed + 1})
 
 
-def main():
-    """Writes data/cases.bin and stdout."""
-    cases = [case for call, (_, drawn) in CALLS.items() for case in generate.cases(call, drawn, SEED)]
-    (CRATE / "data").mkdir(parents=True, exist_ok=True)
-    (CRATE / "data" / "cases.bin").write_bytes(b"".join(stored(case) for case in cases))
-    (CRATE / "stdout").write_text("".join(line(case) + "\n" for case in cases))
-    size = (CRATE / "data" / "cases.bin").stat().st_size
-    print(f"{len(cases)} cases, {size} bytes")
+def near_512_operators(rng):
+    """A drawn query after many lifted variables: its plan has about 512 operators, mostly more."""
+    while True:
+        query_bytes = some_queries.sequence(some_queries.lifted_by_for(rng.randint(14, 20)), some_queries.drawn(rng, 40))
+        if not query.check_query(query_bytes).refusal:
+            return query_bytes
+
+
+def drawn_evaluation(rng):
+    name, query_bytes, doc = generate.drawn_work(rng)
+    return name, (query_bytes, doc), items_needed(query_bytes, doc)
+
+
+def drawn_run(rng):
+    name, (plan_bytes, doc, _) = generate.drawn_run(rng)
+    return name, (plan_bytes, doc), cells_needed(plan_bytes, doc)
+
+
+def drawn_translation(rng):
+    if rng.random() < 0.06:
+        query_bytes = near_512_operators(rng)
+        return "near 512 operators", (query_bytes,), bytes_needed(query_bytes)
+    name, (query_bytes, _) = generate.drawn_translation(rng)
+    return name, (query_bytes,), bytes_needed(query_bytes)
+
+
+LENT = {"evaluate": drawn_evaluation, "run": drawn_run, "translate": drawn_translation}
+
+
+def inputs_with_lengths(call):
+    """Name and input of every case at a bound, then of the drawn ones, each with its lent lengths."""
+    yield from at_bounds.inputs(call)
+    rng = random.Random(f"stored {call} {SEED}")
+    for _ in range(DRAWN[call]):
+        name, given, needed = LENT[call](rng)
+        for lent in lent_lengths(rng, needed):
+            yield name, (*given, lent)
+
+
+def inputs_of_chartask():
+    """Each once, cut to the bytes that chartask reads."""
+    seen = set()
+    for name, (doc, query_bytes) in generate.inputs("chartask", DRAWN["chartask"], SEED):
+        given = doc[:DOC_BYTES], query_bytes[:QUERY_BYTES]
+        if given not in seen:
+            seen.add(given)
+            yield name, given
+
+
+def cases(call):
+    """The call's cases, with the model's answers."""
+    if call in stored.CHECKS:
+        return list(generate.cases(call, DRAWN[call], SEED))
+    inputs = inputs_of_chartask() if call == "chartask" else inputs_with_lengths(call)
+    return [generate.Case(call, name, given, generate.CALLS[call](*given)) for name, given in inputs]
+
+
+def write_checks():
+    """The two checks share a file."""
+    return stored.write("vectors", [case for call in stored.CHECKS for case in cases(call)])
+
+
+def first_to_tell(fault, kept):
+    """The first stored case that prints another text with the fault planted: its call and number; or None."""
+    with faults.planted(fault):
+        for call in fault.calls:
+            its_call = "chartask" if call == "agreement" else call
+            for given, text, number in kept[its_call]:
+                try:
+                    now = stored.printed_now(its_call, given, number)
+                except (IndexError, KeyError, TypeError, ValueError) as error:
+                    now = type(error).__name__
+                if now.endswith("same no\n") if call == "agreement" else now != text:
+                    return call, number
+    return None
+
+
+def plant_faults():
+    """A line for each fault that no stored case tells of, and last how many are caught."""
+    kept = {call: stored.read(call) for call in stored.CRATE_OF}
+    for call, its_cases in kept.items():
+        wrong = [number for given, text, number in its_cases if stored.printed_now(call, given, number) != text]
+        yield f"{call}: {len(its_cases)} stored cases, {len(wrong)} of them not as the model prints them"
+    caught = 0
+    for fault in faults.FAULTS:
+        found = first_to_tell(fault, kept)
+        caught += found is not None
+        if found is None:
+            yield f"NOT CAUGHT: {fault.name}"
+    yield f"{caught} of {len(faults.FAULTS)} faults caught by the stored cases"
+
+
+def report(what):
+    """The lines of one command."""
+    if what == "faults":
+        yield from plant_faults()
+    if what in ("checks", "all"):
+        yield write_checks()
+    for call in stored.SHARED:
+        if what in (call, "all"):
+            yield stored.write(stored.CRATE_OF[call], cases(call))
+
+
+def main(arguments):
+    """The exit status: 2 for a word that is no command, 1 where a fault is not caught."""
+    what = arguments[0] if arguments else "checks"
+    if what not in ("checks", "all", "faults", *stored.SHARED):
+        print(__doc__)
+        return 2
+    well = True
+    for text in report(what):
+        well = well and not text.startswith("NOT CAUGHT")
+        print(text, flush=True)
+    return 0 if well else 1
 
 
 if __name__ == "__main__":
-    main()
+    sys.exit(main(sys.argv[1:]))

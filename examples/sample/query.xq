@@ -1,0 +1,1 @@
+for $a in doc("catalogue.xml")/*/child::n2 return count($a/child::n3)

@@ -1,0 +1,1 @@
+let $a := 1 idiv 0 return 2
