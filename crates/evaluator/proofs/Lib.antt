@@ -1,0 +1,6 @@
+pub mod Scoping
+pub mod Working
+pub mod Pairing
+pub mod Turning
+pub mod Choosing
+pub mod Calling

@@ -1,0 +1,55 @@
+-- The plan check, and how far a walk over a plan came (document 01, 'Plan operators', 'The eight refusals').
+--     checked c          the answer of the plan check: the number of operators, or refusal 5 and its place
+--     planCount bs       what the definitions answer: how many operators the plan has, or the refusal
+--     Bytes bs           every number of bs is below 256
+--     Ends bs at x       the operator x .0 stands from at to x .1, within the bytes, and its own fields are in their ranges
+--     widthsOf ps        the widths of the tables of operators ps
+--     lastAt ps          the offset of the last of them, 0 where there is none
+--     Walk bs done at    the operators `done` stand before at, and what is left of the bytes gives what the whole gives
+--     Checking ..        the same, with the state of the plan check: n widths in ws, the last operator at `last`
+use Prim.Native.Nat.{ℕ, _-_, _≤_, _<_}
+use mathlib.Core.Path.{_≡_}
+use mathlib.Core.List.{List, [], _∷_, map}
+use lib.ListN.{length, take}
+use Rattle.cells.specs.Bytes.{byteAt}
+use Rattle.meaning.specs.Attempt.{Reading, refuses, reads, reading}
+use Rattle.meaning.specs.Plan.{Op, Placed, lastOf, planFrom, planRead}
+use Rattle.meaning.proofs.PlanFields.{Own, Width}
+use Rattle.meaning.proofs.PlanWidths.{Every}
+use Rattle.plans.specs.declared.Checked.{Checked}
+use Rattle.plans.specs.declared.Checked.the-variants.{Operators, Unsound}
+
+unfoldable pub checked : Checked → Reading ℕ
+checked (Operators n) = reads n
+checked (Unsound p) = refuses 5 p
+
+unfoldable pub planCount : List ℕ → Reading ℕ
+planCount bs = reading (planRead bs) (λ ps. reads (length ps))
+
+abbrev pub Bytes : List ℕ → Type 0
+Bytes bs = (i : ℕ) → byteAt bs i < 256
+
+pub record Ends (bs : List ℕ) (at : ℕ) (x : Op × ℕ) : Type 0 where
+  pub after : at < x .1
+  pub within : x .1 ≤ length bs
+  pub own : Own (x .0)
+
+abbrev pub widthsOf : List Placed → List ℕ
+widthsOf ps = map (λ (p : Placed). p .width) ps
+
+unfoldable pub lastAt : List Placed → ℕ
+lastAt [] = 0
+lastAt (p ∷ ps) = lastOf p ps .at
+
+pub record Walk (bs : List ℕ) (done : List Placed) (at : ℕ) : Type 0 where
+  pub few : length done ≤ 512
+  pub each : Every Width (widthsOf done)
+  pub rest : planFrom (512 - length done) bs done at ≡ planRead bs
+
+pub record Checking (bs ws : List ℕ) (at n last : ℕ) : Type 0 where
+  pub done : List Placed
+  pub walk : Walk bs done at
+  pub count : length done ≡ n
+  pub long : length ws ≡ 512
+  pub widths : widthsOf done ≡ take n ws
+  pub latest : lastAt done ≡ last
