@@ -1,0 +1,6 @@
+pub mod Putting
+pub mod Magnitudes
+pub mod Lines
+pub mod Verdicts
+pub mod Kept
+pub mod Examples
