@@ -4,3 +4,4 @@ pub mod Pairing
 pub mod Turning
 pub mod Choosing
 pub mod Calling
+pub mod Decided
