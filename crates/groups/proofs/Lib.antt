@@ -1,0 +1,4 @@
+pub mod Turns
+pub mod Gathering
+pub mod Passing
+pub mod Operators

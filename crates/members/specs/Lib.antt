@@ -1,0 +1,2 @@
+pub mod Grouped
+pub mod Marking

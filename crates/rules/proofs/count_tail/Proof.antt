@@ -1,0 +1,131 @@
+-- `count_tail` meets its contract: one operator after another.
+use borrow.Author.Needs.{needs}
+use native.Mathlib.Omega.{arith}
+use mathlib.Core.Path.{refl}
+use Rattle.writing.specs.Listed.{columnsOf, keysOf}
+use Rattle.rules.specs.Ruled.{operatorOf}
+use Rattle.meaning.specs.Translation.{tailC}
+use lib.Dec.{lit≤}
+use Rattle.rules.proofs.Adding.{wrote-then, wrote-room, wrote-length}
+use Rattle.rules.proofs.count_tail.Statement.{statement}
+use Rattle.rules.proofs.count_tail.Tie as tie
+use Rattle.rules.proofs.count_tail.Reads as reads
+use Rattle.rules.proofs.count_tail.Lts as lts
+use Rattle.rules.proofs.add.Reads as add-reads
+
+add-requires : tie.Need-add-requires
+add-requires c κs = search needs
+
+add-requires-2 : tie.Need-add-requires-2
+add-requires-2 c κs = search needs
+
+add-t22 : tie.Need-add-t22
+add-t22 c = search needs
+
+add-requires-3 : tie.Need-add-requires-3
+add-requires-3 c κs = search needs
+
+add-t22-2 : tie.Need-add-t22-2
+add-t22-2 c = search needs
+
+add-requires-4 : tie.Need-add-requires-4
+add-requires-4 c κs = search needs
+
+add-t22-3 : tie.Need-add-t22-3
+add-t22-3 c = search needs
+
+add-requires-5 : tie.Need-add-requires-5
+add-requires-5 c κs = search needs
+
+add-t22-4 : tie.Need-add-t22-4
+add-t22-4 c = search needs
+
+add-requires-6 : tie.Need-add-requires-6
+add-requires-6 c κs =
+    let p5 = c .before .before .before in
+    let p4 = p5 .before .before .before .before in
+    let p3 = p4 .before .before .before .before in
+    let p2 = p3 .before .before .before .before in
+    let p1 = p2 .before .before .before .before in
+    wrote-room (wrote-then (wrote-then (wrote-then (wrote-then (p1 .add .ensures) (p2 .add2 .ensures))
+    (p3 .add3 .ensures)) (p4 .add4 .ensures)) (p5 .add5 .ensures)) 1 7 (p1 .before .before .before .pre) (lit≤ tt)
+
+add-t22-5 : tie.Need-add-t22-5
+add-t22-5 c =
+    omega (
+      arith,
+      c .before .before .before .before .before .before .before .before .before .before .before .before
+          .before .before .before .before .before .before .before .before .before .before .before .before .before .before .pre,
+    )
+
+add-requires-7 : tie.Need-add-requires-7
+add-requires-7 c κs =
+    let p6 = c .before .before .before in
+    let p5 = p6 .before .before .before .before in
+    let p4 = p5 .before .before .before .before in
+    let p3 = p4 .before .before .before .before in
+    let p2 = p3 .before .before .before .before in
+    let p1 = p2 .before .before .before .before in
+    wrote-room (wrote-then (wrote-then (wrote-then (wrote-then (wrote-then (p1 .add .ensures) (p2 .add2 .ensures))
+    (p3 .add3 .ensures)) (p4 .add4 .ensures)) (p5 .add5 .ensures)) (p6 .add6 .ensures)) 1 7
+    (p1 .before .before .before .pre) (lit≤ tt)
+
+add-t22-6 : tie.Need-add-t22-6
+add-t22-6 c =
+    omega (
+      arith,
+      c .before .before .before .before .before .before .before .before .before .before .before .before
+          .before .before .before .before .before .before .before .before .before .before .before .before .before .before
+          .before .before .before .pre,
+    )
+
+same-length : tie.Need-same-length
+same-length c =
+    let p7 = c .before .before in
+    let p6 = p7 .before .before .before .before in
+    let p5 = p6 .before .before .before .before in
+    let p4 = p5 .before .before .before .before in
+    let p3 = p4 .before .before .before .before in
+    let p2 = p3 .before .before .before .before in
+    let p1 = p2 .before .before .before .before in
+    wrote-length (wrote-then (wrote-then (wrote-then (wrote-then (wrote-then (wrote-then (p1 .add .ensures)
+    (p2 .add2 .ensures)) (p3 .add3 .ensures)) (p4 .add4 .ensures)) (p5 .add5 .ensures)) (p6 .add6 .ensures))
+    (p7 .add7 .ensures))
+
+returns : tie.Need-returns
+unfolding tailC operatorOf columnsOf keysOf
+returns c =
+    let p7 = c .before .before in
+    let p6 = p7 .before .before .before .before in
+    let p5 = p6 .before .before .before .before in
+    let p4 = p5 .before .before .before .before in
+    let p3 = p4 .before .before .before .before in
+    let p2 = p3 .before .before .before .before in
+    let p1 = p2 .before .before .before .before in
+    record {
+      wrote = wrote-then (wrote-then (wrote-then (wrote-then (wrote-then (wrote-then (p1 .add .ensures)
+          (p2 .add2 .ensures)) (p3 .add3 .ensures)) (p4 .add4 .ensures)) (p5 .add5 .ensures)) (p6 .add6 .ensures))
+          (p7 .add7 .ensures);
+      table = refl;
+      after = refl;
+    }
+
+pub count-tail-spec : {M : Type 1} → statement M
+count-tail-spec =
+    tie.close
+    (tie.spec
+    add-requires
+    add-requires-2
+    add-t22
+    add-requires-3
+    add-t22-2
+    add-requires-4
+    add-t22-3
+    add-requires-5
+    add-t22-4
+    add-requires-6
+    add-t22-5
+    add-requires-7
+    add-t22-6
+    same-length
+    returns)

@@ -1,0 +1,34 @@
+-- `data_tail` meets its contract: one operator after another.
+use borrow.Author.Needs.{needs}
+use mathlib.Core.Path.{refl}
+use Rattle.writing.specs.Listed.{columnsOf, keysOf}
+use Rattle.rules.specs.Ruled.{operatorOf}
+use Rattle.meaning.specs.Translation.{tailD}
+use Rattle.rules.proofs.Adding.{wrote-then}
+use Rattle.rules.proofs.data_tail.Statement.{statement}
+use Rattle.rules.proofs.data_tail.Tie as tie
+use Rattle.rules.proofs.data_tail.Reads as reads
+use Rattle.rules.proofs.data_tail.Lts as lts
+use Rattle.rules.proofs.add.Reads as add-reads
+
+add-requires : tie.Need-add-requires
+add-requires c κs = search needs
+
+add-requires-2 : tie.Need-add-requires-2
+add-requires-2 c κs = search needs
+
+add-t14 : tie.Need-add-t14
+add-t14 c = search needs
+
+same-length : tie.Need-same-length
+same-length c = search needs
+
+returns : tie.Need-returns
+unfolding tailD operatorOf columnsOf keysOf
+returns c =
+    let p2 = c .before .before in
+    let p1 = p2 .before .before .before .before in
+    record { wrote = wrote-then (p1 .add .ensures) (p2 .add2 .ensures); table = refl; after = refl }
+
+pub data-tail-spec : {M : Type 1} → statement M
+data-tail-spec = tie.close (tie.spec add-requires add-requires-2 add-t14 same-length returns)

@@ -1,0 +1,77 @@
+-- What the rules of the translation leave in the lent bytes (document 01, 'Translation').
+--     operatorOf o           an operator as the definitions have it
+--     Room p k               k more operators can be counted: of 5,000 operators, each at most 12 bytes long
+--     Wrote os x p y r       the operators os are written over the bytes x where p stands; y is left, writing stands at r
+--     Ruled m next x p y r   the same for a rule's operators; r names its result's table, and next as the offset after
+--     choice n a b           what QI adds after its operands
+--     tablesOf ts            the table of each variable, from the row of eight
+--     Holds ts e             the row has the tables e of the variables 0 to 7
+--     flagged fs n           the variables below n whose flag is set, by rising number
+--     Lifts ts m cs vs x p y r    the variables vs are lifted: their joins with table m and their projections on cs are
+--                            written, and r has the variables' tables after them
+use Prim.Native.Nat.{ℕ, _+_, _*_, _≤_, _<_}
+use mathlib.Core.Path.{_≡_}
+use mathlib.Core.List.{List, [], _∷_}
+use mathlib.Core.Bool.{Bool, false}
+use lib.ListN.{length, getD}
+use Rattle.laws.specs.Lists.{filter, below}
+use Rattle.meaning.specs.Plan.{Op, RT, RA, RP, RU, RD, RS, RJ, RN, RF, RV, RC, RE, RK, RX, RO}
+use Rattle.meaning.specs.Translation.{Made, Tables, lifts, lifted}
+use Rattle.meaning.specs.Written.{written}
+use Rattle.writing.specs.Penned.{Pens}
+use Rattle.writing.specs.Listed.{columnsOf, keysOf}
+use Rattle.rules.specs.declared.Operator.{Operator}
+use Rattle.rules.specs.declared.Operator.the-variants.{First, Attach, Project, Union, Minus, Select, Join, Number}
+use Rattle.rules.specs.declared.Operator.the-variants.{Apply, Value, Counts, Truths, Once, Step, Root}
+use Rattle.rules.specs.declared.Pen.{Pen}
+use Rattle.rules.specs.declared.Output.{Output}
+use Rattle.rules.specs.declared.Lifted.{Lifted}
+
+unfoldable pub operatorOf : Operator → Op
+operatorOf First = RT
+operatorOf (Attach t z) = RA t z
+operatorOf (Project t cs) = RP t (columnsOf cs)
+operatorOf (Union t u) = RU t u
+operatorOf (Minus t u) = RD t u
+operatorOf (Select t c) = RS t c
+operatorOf (Join t c u d) = RJ t c u d
+operatorOf (Number t p ks) = RN t p (keysOf ks)
+operatorOf (Apply t f c d) = RF t f c d
+operatorOf (Value t c) = RV t c
+operatorOf (Counts t c) = RC t c
+operatorOf (Truths t) = RE t
+operatorOf (Once t c) = RK t c
+operatorOf (Step t axis test) = RX t axis test
+operatorOf (Root t k) = RO t k
+
+pub record Room (p : Pen) (k : ℕ) : Type 0 where
+  pub few : p .operators + k ≤ 5000
+  pub short : p .at ≤ 12 * p .operators
+
+pub record Wrote (os : List Op) (x : List ℕ) (p : Pen) (y : List ℕ) (r : Pen) : Type 0 where
+  pub count : r .operators ≡ p .operators + length os
+  pub pens : Pens (p .at) (written os) x y (r .at)
+  pub short : r .at + 12 * p .operators ≤ p .at + 12 * r .operators
+
+pub record Ruled (m : Made) (next : ℕ) (x : List ℕ) (p : Pen) (y : List ℕ) (r : Output) : Type 0 where
+  pub wrote : Wrote (m .ops) x p y (r .pen)
+  pub table : r .table ≡ m .result
+  pub after : r .next ≡ next
+
+-- QI, after its operands: union
+unfoldable pub choice : ℕ → ℕ → ℕ → Made
+choice n a b = record { ops = RU a b ∷ []; result = n }
+
+abbrev pub tablesOf : List ℕ → Tables
+tablesOf ts v = getD ts v 0
+
+abbrev pub Holds : List ℕ → Tables → Type 0
+Holds ts e = (v : ℕ) → v < 8 → getD ts v 0 ≡ e v
+
+unfoldable pub flagged : List Bool → ℕ → List ℕ
+flagged fs n = filter (λ v. getD fs v false) (below n)
+
+pub record Lifts
+    (ts : List ℕ) (m : ℕ) (cs vs : List ℕ) (x : List ℕ) (p : Pen) (y : List ℕ) (r : Lifted) : Type 0 where
+  pub wrote : Wrote (lifts (tablesOf ts) m cs (p .operators) vs) x p y (r .pen)
+  pub holds : Holds (r .tables) (lifted (tablesOf ts) (p .operators) vs)

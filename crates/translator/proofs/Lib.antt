@@ -1,0 +1,6 @@
+pub mod Rooms
+pub mod Splitting
+pub mod Composing
+pub mod Dispatching
+pub mod Concluding
+pub mod Decided
