@@ -8,6 +8,7 @@
 --     told ask                          the calls' answers to a question
 --     examples                          the table: a question, and what must be told
 --     marked                            every question is told what the table says
+--     repeated-rows-stay                RD keeps repeated rows
 use Prim.Native.Nat.{ℕ, zero, suc, _+_, _-_}
 use mathlib.Core.Path.{_≡_, refl}
 use mathlib.Core.List.{List, [], _∷_, _++_, map}
@@ -206,3 +207,9 @@ examples =
 marked : map (λ (e : Ask × List Told). told (e .0)) examples ≡ map (λ (e : Ask × List Told). e .1) examples
 unfolding told examples nested longitudes byZero both
 marked = refl
+
+-- RD keeps repeated rows of t: they are no set
+repeated-rows-stay :
+    Operators.minus ((pos 1 ∷ []) ∷ (pos 1 ∷ []) ∷ (pos 2 ∷ []) ∷ []) ((pos 2 ∷ []) ∷ []) ≡ (pos 1 ∷ []) ∷ (pos 1 ∷ []) ∷ []
+unfolding Operators.minus Operators.sameRow Lists.filter Lists.any Cell.same
+repeated-rows-stay = refl
