@@ -1,0 +1,41 @@
+-- Where the tables of a run stand (document 01, 'Room': the runner lays tables end to end).
+--     standAt dir t            where table t stands: three numbers of the directory, its first cell, its rows and its width
+--     entered dir t s          the directory with table t at s
+--     tablesIn xs dir n        the first n tables, as they stand in the cells xs
+--     widthsIn dir n           their widths
+--     Listed dir n top         the first n tables stand below cell `top`, and are 1 to 6 wide
+--     EndToEnd xs dir n top    the cells below `top` are those of the first n tables, one after another
+use Prim.Native.Nat.{ℕ, zero, suc, _+_, _*_, _≤_, _<_}
+use mathlib.Core.Path.{_≡_}
+use mathlib.Core.List.{List, [], _∷_, _++_}
+use lib.IntN.{ℤ}
+use lib.ListN.{length, getD, set, take}
+use Rattle.laws.specs.Lists.{gather}
+use Rattle.meaning.specs.Operators.{Table}
+use Rattle.meaning.specs.Calls.{flat}
+use Rattle.tables.specs.declared.Stand.{Stand}
+use Rattle.tables.specs.Layout.{tableAt, Inside}
+
+unfoldable pub standAt : List ℕ → ℕ → Stand
+standAt dir t = record { at = getD dir (3 * t) 0; rows = getD dir (3 * t + 1) 0; width = getD dir (3 * t + 2) 0 }
+
+unfoldable pub entered : List ℕ → ℕ → Stand → List ℕ
+entered dir t s = set (set (set dir (3 * t) (s .at)) (3 * t + 1) (s .rows)) (3 * t + 2) (s .width)
+
+unfoldable pub tablesIn : List ℤ → List ℕ → ℕ → List Table
+tablesIn xs dir zero = []
+tablesIn xs dir (suc n) = tablesIn xs dir n ++ (tableAt xs (standAt dir n) ∷ [])
+
+unfoldable pub widthsIn : List ℕ → ℕ → List ℕ
+widthsIn dir zero = []
+widthsIn dir (suc n) = widthsIn dir n ++ (standAt dir n .width ∷ [])
+
+-- there is an entry for each of 512 tables
+pub record Listed (dir : List ℕ) (n top : ℕ) : Type 0 where
+  pub few : n ≤ 512
+  pub long : length dir ≡ 1536
+  pub inside : (t : ℕ) → t < n → Inside top (standAt dir t)
+  pub wide : (t : ℕ) → t < n → (1 ≤ standAt dir t .width) × (standAt dir t .width ≤ 6)
+
+unfoldable pub EndToEnd : List ℤ → List ℕ → ℕ → ℕ → Type 0
+EndToEnd xs dir n top = take top xs ≡ gather flat (tablesIn xs dir n)

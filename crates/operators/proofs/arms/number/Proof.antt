@@ -1,0 +1,47 @@
+-- `operators::arms::number` meets its contract.
+use native.Mathlib.Omega.{arith}
+use Rattle.operators.proofs.Keyed.{keys-suit, keys-owe}
+use borrow.Author.Needs.{needs}
+use Rattle.operators.proofs.arms.number.Statement.{statement}
+use Rattle.operators.proofs.arms.number.Tie as tie
+
+stand-requires : tie.Need-stand-requires
+stand-requires c κs = search needs
+
+keys-requires : tie.Need-keys-requires
+keys-requires c κs = search needs
+
+number-requires : tie.Need-number-requires
+number-requires c κs = let start = c .before .before .before .before .before .before .before .before .before in
+    rw (c .before .before .before .before .stand .ensures) (
+      (start .pre .0 .0 .inside, omega arith, omega arith, omega arith),
+      (keys-suit _ _ _ _ (c .before .before .before .keys .ensures) (start .pre .1 .1 .0), (omega arith, omega arith)),
+    )
+
+same-length : tie.Need-same-length
+same-length c = search needs
+
+same-length-2 : tie.Need-same-length-2
+same-length-2 c = search needs
+
+same-length-3 : tie.Need-same-length-3
+same-length-3 c = search needs
+
+returns : tie.Need-returns
+returns c =
+    keys-owe (c .before .before .before .before .before .before .before .before .before .keys .result) _ _ _ _ _ _ _ _ _
+    (c .before .before .before .before .before .before .before .before .before .keys .ensures)
+    (rw (c .before .before .before .before .before .before .before .before .before .before .stand .ensures) at
+    (c .before .before .before .before .before .number .ensures))
+
+pub number-spec : {M : Type 1} → statement M
+number-spec =
+    tie.close
+    (tie.spec
+    stand-requires
+    keys-requires
+    number-requires
+    same-length
+    same-length-2
+    same-length-3
+    returns)

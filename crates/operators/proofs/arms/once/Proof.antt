@@ -1,0 +1,21 @@
+-- `operators::arms::once` meets its contract.
+use native.Mathlib.Omega.{arith}
+use borrow.Author.Needs.{needs}
+use Rattle.operators.proofs.arms.once.Statement.{statement}
+use Rattle.operators.proofs.arms.once.Tie as tie
+
+stand-requires : tie.Need-stand-requires
+stand-requires c κs = search needs
+
+once-requires : tie.Need-once-requires
+once-requires c κs = let start = c .before .before .before in
+    rw (c .before .stand .ensures) (start .pre .0 .inside, omega arith, omega arith, omega arith)
+
+same-length : tie.Need-same-length
+same-length c = search needs
+
+returns : tie.Need-returns
+returns c = rw (c .before .before .before .stand .ensures) at (c .before .once .ensures)
+
+pub once-spec : {M : Type 1} → statement M
+once-spec = tie.close (tie.spec stand-requires once-requires same-length returns)

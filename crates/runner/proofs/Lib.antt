@@ -1,0 +1,5 @@
+pub mod Going
+pub mod Turning
+pub mod Leaving
+pub mod Calling
+pub mod Decided
