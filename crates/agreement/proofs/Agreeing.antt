@@ -15,9 +15,10 @@ use borrow.Author.Tests.{eq-eqb}
 use Rattle.laws.specs.Lists.{gather}
 use Rattle.laws.specs.Keyed.{within}
 use Rattle.laws.proofs.Lists.{All, all-kept}
-use Rattle.laws.proofs.Filters.{In, by-cases, clash, in-filter, in-none, no-cons}
+use Rattle.laws.proofs.Filters.{In, in-filter, in-none, no-cons}
+use Rattle.laws.proofs.Booleans.{by-cases, clash}
 use Rattle.laws.proofs.Groups.{filled, within-gather}
-use Rattle.meaning.specs.Attempt.{Attempt, fails, gives, attempt, each}
+use Rattle.laws.specs.Attempt.{Attempt, fails, gives, attempt, each}
 use Rattle.agreement.specs.Typed.{Triple, Loop, iterOf}
 use Rattle.agreement.specs.Families.{Family, Mask, placed, Represents, Loops, Outside, Agree, agrees, failing}
 use Rattle.agreement.proofs.Attempts.{got, Outcome, allGive, oneFails, outcome}

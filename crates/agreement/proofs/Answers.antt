@@ -14,8 +14,8 @@ use lib.Dec.{leb}
 use lib.IntN.{ℤ, pos}
 use lib.ListN.{length, replicate, length-append, length-replicate}
 use Rattle.laws.specs.Lists.{gather}
-use Rattle.meaning.specs.Attempt.{fails, Reading, refuses, reads, reading, Work, done}
-use Rattle.meaning.specs.Attempt as Attempt
+use Rattle.laws.specs.Attempt.{fails, Reading, refuses, reads, reading, Work, done, Found}
+use Rattle.laws.specs.Attempt as Attempt
 use Rattle.meaning.specs.Catalogue.{catalogueRead}
 use Rattle.meaning.specs.World.{World, worldOf}
 use Rattle.meaning.specs.Query.{Query, Read, queryRead}
@@ -25,11 +25,12 @@ use Rattle.meaning.specs.Operators.{Table}
 use Rattle.meaning.specs.Run.{Filled, running}
 use Rattle.meaning.specs.Translation.{plan}
 use Rattle.meaning.specs.Written.{written}
-use Rattle.meaning.specs.Calls.{gives, refused, Outcome, padded, refusal, room, planOf, translateOutcome}
-use Rattle.meaning.specs.Calls.{translateCall, lastTable, flat, runCall, evaluateCall}
-use Rattle.meaning.proofs.Outcomes.{reads-same, Found, found-reads, found-unless, found-reading}
-use Rattle.meaning.proofs.Counts.{counts}
-use Rattle.meaning.proofs.Counted.{evaluate-done, evaluate-failed, running-done, running-failed, running-fits}
+use Rattle.meaning.specs.Calls.{gives, refused, Outcome, refusal, room, planOf, translateOutcome}
+use Rattle.laws.specs.Rows.{padded, flat}
+use Rattle.meaning.specs.Calls.{translateCall, lastTable, runCall, evaluateCall}
+use Rattle.laws.proofs.Outcomes.{reads-same, found-reads, found-unless, found-reading}
+use Rattle.theorems.proofs.Counts.{counts}
+use Rattle.theorems.proofs.Counted.{evaluate-done, evaluate-failed, running-done, running-failed, running-fits}
 use Rattle.agreement.specs.Promises.{Passed, PlanPassed, means, makes, Refused, Cleared, Stood}
 use Rattle.agreement.proofs.RowWidths.{Wide, Widths, widthsOf, LastThree, read-sound, flat-wide, flat-last}
 use Rattle.agreement.proofs.RowWidths.{last-wide, Laid, running-laid}

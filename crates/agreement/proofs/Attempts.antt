@@ -11,7 +11,7 @@ use mathlib.Core.List.{List, [], _∷_, _++_, map}
 use Rattle.laws.specs.Lists.{gather}
 use Rattle.laws.proofs.Lists.{All}
 use Rattle.laws.proofs.Filters.{In, all-in}
-use Rattle.meaning.specs.Attempt.{Attempt, fails, gives, attempt, each}
+use Rattle.laws.specs.Attempt.{Attempt, fails, gives, attempt, each}
 use Rattle.agreement.specs.Typed.{extended}
 
 unfoldable pub got : {B : Type 0} → Attempt (List B) → List B

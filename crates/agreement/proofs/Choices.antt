@@ -16,12 +16,13 @@ use lib.IntN.{ℤ}
 use Rattle.laws.specs.Lists.{filter, gather}
 use Rattle.laws.specs.Keyed.{risingBy, within, without, numbersIn, joined}
 use Rattle.laws.proofs.Lists.{All}
-use Rattle.laws.proofs.Filters.{by-cases, clash, filter-map, filter-append, filter-comm}
+use Rattle.laws.proofs.Filters.{filter-map, filter-append, filter-comm}
+use Rattle.laws.proofs.Booleans.{by-cases, clash}
 use Rattle.laws.proofs.Joins.{joined-at, gather-one, gather-none}
 use Rattle.laws.proofs.Groups.{filled, not-filled, any-filter, without-at}
-use Rattle.meaning.specs.Attempt.{Attempt, fails, gives, attempt, each}
+use Rattle.laws.specs.Attempt.{Attempt, fails, gives, attempt, each}
 use Rattle.meaning.specs.World.{World}
-use Rattle.meaning.proofs.Nodes.{Lawful}
+use Rattle.theorems.proofs.Nodes.{Lawful}
 use Rattle.meaning.specs.Meaning.{Env}
 use Rattle.agreement.specs.Typed.{Triple, Loop, Vars, Sem, iterOf, placeOf, itemOf, byNumber, itemsInOrder}
 use Rattle.agreement.specs.Typed.{truthsOf, thenLoop, keptIn, branches, semI}

@@ -24,7 +24,7 @@ use Rattle.cells.specs.declared.Test.{Test}
 use Rattle.laws.specs.Lists.{filter, any, firsts}
 use Rattle.laws.specs.Sorting.{sort}
 use Rattle.laws.specs.Keyed.{Key, risingBy, countedAfter, counted, joined, numbersIn, within, without, unique}
-use Rattle.meaning.specs.Attempt.{Attempt, fails, gives, attempt, each}
+use Rattle.laws.specs.Attempt.{Attempt, fails, gives, attempt, each}
 use Rattle.meaning.specs.World.{World}
 use Rattle.meaning.specs.Operators.{Row, Table, cell, column, sameRow, attach, project, minus, select, join, rising}
 use Rattle.meaning.specs.Operators.{numberedAfter, inGroup, number, added, groups, groupOf, counts, itemsInOrder}
@@ -33,7 +33,8 @@ use Rattle.agreement.specs.Typed as T
 use Rattle.agreement.specs.Typed.{Triple, iterOf, placeOf, itemOf, extended, truthsOf, countsOf, stepsOf}
 use Rattle.agreement.specs.Encoded.{encode, encodeNumber, encodeCell, encodePair, encodeNumbers, encodeItem}
 use Rattle.agreement.specs.Encoded.{encodeChoice}
-use Rattle.agreement.proofs.EncodedLists.{or-right, mapped, mapped-once, filter-through, any-through}
+use Rattle.agreement.proofs.EncodedLists.{mapped, mapped-once, filter-through, any-through}
+use Rattle.laws.proofs.Booleans.{or-right}
 use Rattle.agreement.proofs.EncodedLists.{count-through}
 use Rattle.agreement.proofs.EncodedLists.{firsts-through, gather-through, sort-through, each-through}
 

@@ -10,16 +10,10 @@ use mathlib.Core.List.{List, [], _∷_, _++_, map}
 use mathlib.Core.Bool.{Bool, true, false, not, cond, _||_}
 use Rattle.laws.specs.Lists.{filter, any, count, gather, firsts}
 use Rattle.laws.specs.Sorting.{insert, sort}
-use Rattle.meaning.specs.Attempt.{Attempt, fails, gives, attempt, each}
+use Rattle.laws.specs.Attempt.{Attempt, fails, gives, attempt, each}
+use Rattle.laws.proofs.Booleans.{or-left, or-right}
 
 -- one of two that hold
-pub or-left : (a b : Bool) → a ≡ true → a || b ≡ true
-or-left a b e = rw e refl
-
-pub or-right : (a b : Bool) → b ≡ true → a || b ≡ true
-or-right true b e = refl
-or-right false b e = e
-
 module _ {A B : Type 0} (f : A → B) where
   map-cond : (b : Bool) (x : A) (xs : List A) → cond b (f x ∷ map f xs) (map f xs) ≡ map f (cond b (x ∷ xs) xs)
   map-cond true x xs = refl

@@ -13,15 +13,14 @@ use lib.IntN.{ℤ, pos}
 use lib.ListN.{length, take, drop, replicate, length-append, length-replicate}
 use lib.Seq.{take-at, drop-at}
 use Rattle.laws.specs.Lists.{gather}
-use Rattle.laws.specs.Rows.{row, rowsAt}
-use Rattle.meaning.specs.Attempt.{Reading, refuses, reads, Work, full, failed, done}
+use Rattle.laws.specs.Rows.{row, rowsAt, padded, flat}
+use Rattle.laws.specs.Attempt.{Reading, refuses, reads, Work, full, failed, done, Found}
 use Rattle.meaning.specs.Counted.{Standing}
 use Rattle.meaning.specs.Operators.{Table}
 use Rattle.meaning.specs.Run.{Filled}
-use Rattle.meaning.specs.Calls.{gives, refused, Outcome, padded, refusal, lastTable, flat, runOutcome}
+use Rattle.meaning.specs.Calls.{gives, refused, Outcome, refusal, lastTable, runOutcome}
 use Rattle.meaning.specs.Calls.{evaluateOutcome}
-use Rattle.meaning.proofs.Outcomes.{Found}
-use Rattle.meaning.proofs.Counts.{Full}
+use Rattle.theorems.proofs.Counts.{Full}
 use Rattle.agreement.specs.Promises.{Refused}
 use Rattle.agreement.proofs.RowWidths.{Wide}
 

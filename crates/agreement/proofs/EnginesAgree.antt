@@ -9,8 +9,8 @@ use native.Mathlib.Omega.{arith}
 use lib.IntN.{ℤ, pos}
 use lib.ListN.{length, take, length-map}
 use Rattle.laws.specs.Rows.{rowsAt}
-use Rattle.meaning.specs.Attempt.{Attempt, fails, Reading, refuses, reads, Work}
-use Rattle.meaning.specs.Attempt as Attempt
+use Rattle.laws.specs.Attempt.{Attempt, fails, Reading, refuses, reads, Work}
+use Rattle.laws.specs.Attempt as Attempt
 use Rattle.meaning.specs.Catalogue.{Catalogue, catalogueRead}
 use Rattle.meaning.specs.World.{worldOf}
 use Rattle.meaning.specs.Query.{Query, Read}
@@ -21,12 +21,13 @@ use Rattle.meaning.specs.Run.{run, Filled}
 use Rattle.meaning.specs.Translation.{plan}
 use Rattle.meaning.specs.Calls.{Answer, gives, Outcome, refusal, room, catalogueAnswer, catalogueCall}
 use Rattle.meaning.specs.Calls.{translateCall, lastTable, runCall, evaluateCall}
-use Rattle.meaning.proofs.Outcomes.{fails-gives, gives-same, reads-same}
-use Rattle.meaning.proofs.Counted.{evaluate-done, evaluate-failed, running-done, running-failed}
-use Rattle.meaning.proofs.PlanRead.{query-plan-back, Translated, translated}
+use Rattle.laws.proofs.Outcomes.{fails-gives, gives-same, reads-same}
+use Rattle.theorems.proofs.Counted.{evaluate-done, evaluate-failed, running-done, running-failed}
+use Rattle.theorems.proofs.PlanRead.{query-plan-back, Translated, translated}
 use Rattle.agreement.specs.Machine as Machine
 use Rattle.agreement.specs.Machine.{SameRun}
-use Rattle.agreement.specs.Promises.{Bytes, Passed, PlanPassed, means, makes, Refused, Stood, itemsAt, Alike}
+use Rattle.agreement.specs.Promises.{Passed, PlanPassed, means, makes, Refused, Stood, itemsAt, Alike}
+use Rattle.cells.specs.Bytes.{Bytes}
 use Rattle.agreement.specs.Promises.{bothFail, bothGive, Held, Demand3, Demand3InHand}
 use Rattle.agreement.proofs.MachineAgreement.{same-run-read}
 use Rattle.agreement.proofs.EngineCalls.{ended, evaluated, ran, evaluated-plain, ran-plain, Settled, failing}

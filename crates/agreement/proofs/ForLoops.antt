@@ -16,7 +16,7 @@ use Rattle.laws.specs.Keyed.{within}
 use Rattle.laws.proofs.Lists.{all-both, all-kept, all-map, rising-mapped}
 use Rattle.laws.proofs.Filters.{In, all-filter, filter-map, gather-map, no-cons}
 use Rattle.laws.proofs.Sorting.{Sorted}
-use Rattle.meaning.specs.Attempt.{Attempt, gives, attempt, each}
+use Rattle.laws.specs.Attempt.{Attempt, gives, attempt, each}
 use Rattle.meaning.specs.Meaning.{Env, bind}
 use Rattle.agreement.specs.Typed.{Triple, Vars, Sem, itemOf, holding, allInOrder, itemsAlone}
 use Rattle.agreement.specs.Typed.{newLoop, mapOf, liftedBy, broughtBack, semF}

@@ -17,10 +17,11 @@ use Rattle.cells.specs.declared.Function.{Function}
 use Rattle.laws.specs.Lists.{gather}
 use Rattle.laws.specs.Keyed.{within, joined, unique}
 use Rattle.laws.proofs.Lists.{All}
-use Rattle.laws.proofs.Filters.{In, by-cases, in-none, tails, no-cons}
+use Rattle.laws.proofs.Filters.{In, in-none, tails, no-cons}
+use Rattle.laws.proofs.Booleans.{by-cases}
 use Rattle.laws.proofs.Joins.{joined-at}
 use Rattle.laws.proofs.Groups.{unique-true, unique-false}
-use Rattle.meaning.specs.Attempt.{Attempt, fails, gives, attempt, each, provided}
+use Rattle.laws.specs.Attempt.{Attempt, fails, gives, attempt, each, provided}
 use Rattle.meaning.specs.World.{World}
 use Rattle.meaning.specs.Meaning.{apply}
 use Rattle.agreement.specs.Typed.{Triple, row, iterOf, checked, facing, semO}

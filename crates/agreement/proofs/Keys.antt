@@ -13,9 +13,9 @@ use lib.IntN.{ℤ, pos, negsuc}
 use borrow.Author.Tests.{ltb-true, ltb-false, le-ltb, eq-eqb, ne-eqb}
 use Rattle.cells.specs.Cell.{same, before}
 use Rattle.laws.specs.Keyed.{Key, risingBy}
-use Rattle.laws.proofs.Filters.{by-cases, clash}
+use Rattle.laws.proofs.Booleans.{by-cases, clash}
 use Rattle.laws.proofs.Sorting.{tied, LawfulKey}
-use Rattle.meaning.proofs.Nodes.{before-after}
+use Rattle.theorems.proofs.Nodes.{before-after}
 use Rattle.agreement.specs.Typed.{byCell}
 
 ltb-through : (a b c : ℕ) → ltb a b ≡ false → ltb b c ≡ false → ltb a c ≡ false

@@ -11,8 +11,9 @@ use lib.Dec.{eqb}
 use lib.IntN.{ℤ}
 use Rattle.laws.specs.Lists.{filter}
 use Rattle.laws.specs.Keyed.{within}
-use Rattle.laws.proofs.Filters.{by-cases, filter-map, no-cons}
-use Rattle.meaning.specs.Attempt.{Attempt, fails, gives, attempt, each}
+use Rattle.laws.proofs.Filters.{filter-map, no-cons}
+use Rattle.laws.proofs.Booleans.{by-cases}
+use Rattle.laws.specs.Attempt.{Attempt, fails, gives, attempt, each}
 use Rattle.meaning.specs.Meaning.{Env}
 use Rattle.meaning.specs.World.{World}
 use Rattle.agreement.specs.Typed.{Triple, row, Loop, Vars, semL, semE, semR, firstPlaces, extended}

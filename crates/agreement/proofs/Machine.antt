@@ -10,7 +10,7 @@ use mathlib.Core.List.{List, [], _∷_, _++_, map, append-nil, append-assoc}
 use native.Mathlib.Omega.{arith}
 use lib.ListN.{length, getD, length-append, List·getD-append}
 use lib.Seq.{getD-at}
-use Rattle.meaning.specs.Attempt.{Attempt, fails, gives, attempt}
+use Rattle.laws.specs.Attempt.{Attempt, fails, gives, attempt}
 use Rattle.meaning.specs.World.{World}
 use Rattle.meaning.specs.Plan.{Op}
 use Rattle.meaning.specs.Operators.{Row, Table, make}

@@ -4,14 +4,14 @@
 use Prim.Native.Nat.{ℕ}
 use mathlib.Core.Path.{_≡_, refl, ap, _∙_}
 use mathlib.Core.List.{List, []}
-use Rattle.meaning.specs.Attempt.{reads}
+use Rattle.laws.specs.Attempt.{reads}
 use Rattle.meaning.specs.Catalogue.{Catalogue}
 use Rattle.meaning.specs.World.{World, worldOf}
 use Rattle.meaning.specs.Query.{Query, Read, queryRead}
 use Rattle.meaning.specs.Meaning.{eval}
 use Rattle.meaning.specs.Operators.{Table, column}
-use Rattle.meaning.proofs.Closed.{Closed, accepted}
-use Rattle.meaning.proofs.Nodes.{Lawful, lawful}
+use Rattle.theorems.proofs.Closed.{Closed, accepted}
+use Rattle.theorems.proofs.Nodes.{Lawful, lawful}
 use Rattle.agreement.specs.Typed.{itemOf, semPlan}
 use Rattle.agreement.specs.Families as F
 use Rattle.agreement.specs.Families.{SameItems, placed}

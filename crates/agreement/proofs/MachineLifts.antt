@@ -14,8 +14,8 @@ use lib.IntN.{pos}
 use lib.ListN.{length}
 use Rattle.laws.specs.Lists.{filter, any, below}
 use Rattle.laws.specs.Keyed.{joined}
-use Rattle.laws.proofs.Filters.{by-cases}
-use Rattle.meaning.specs.Attempt.{Attempt}
+use Rattle.laws.proofs.Booleans.{by-cases, or-left, or-right}
+use Rattle.laws.specs.Attempt.{Attempt}
 use Rattle.meaning.specs.World.{World}
 use Rattle.meaning.specs.Plan.{Op}
 use Rattle.meaning.specs.Operators.{Row, Table, cell}
@@ -23,7 +23,6 @@ use Rattle.meaning.specs.Translation.{Tables, hold, lifts, lifted}
 use Rattle.agreement.specs.Typed.{Triple, Vars, iterOf}
 use Rattle.agreement.specs.Encoded.{encode, encodePair, Has, HasRows}
 use Rattle.agreement.specs.Machine.{Simulates}
-use Rattle.agreement.proofs.EncodedLists.{or-left, or-right}
 use Rattle.agreement.proofs.Machine.{Extends, extends-self, extends-then, has-kept, has-as}
 use Rattle.agreement.proofs.MachineOperators.{joining, projecting}
 

@@ -12,8 +12,8 @@ use lib.ListN.{length}
 use Rattle.cells.specs.Cell.{same, trueCell, truthCell}
 use Rattle.laws.specs.Lists.{filter, any, below}
 use Rattle.laws.specs.Keyed.{risingBy, without}
-use Rattle.laws.proofs.Filters.{by-cases}
-use Rattle.meaning.specs.Attempt.{Attempt, gives, attempt}
+use Rattle.laws.proofs.Booleans.{by-cases}
+use Rattle.laws.specs.Attempt.{Attempt, gives, attempt}
 use Rattle.meaning.specs.World.{World}
 use Rattle.meaning.specs.Query.{Query, free}
 use Rattle.meaning.specs.Plan.{Op, RU}

@@ -14,7 +14,7 @@ use Rattle.cells.specs.declared.Axis.{Axis}
 use Rattle.cells.specs.declared.Test.{Test}
 use Rattle.laws.specs.Lists.{filter}
 use Rattle.laws.specs.Keyed.{Key, risingBy, counted, joined, without, unique}
-use Rattle.meaning.specs.Attempt.{Attempt, gives, attempt, provided}
+use Rattle.laws.specs.Attempt.{Attempt, gives, attempt, provided}
 use Rattle.meaning.specs.World.{World}
 use Rattle.meaning.specs.Plan.{Op, RA, RP, RU, RD, RS, RJ, RN, RF, RV, RC, RE, RK, RX, RO}
 use Rattle.meaning.specs.Operators.{Row, Table, cell, column, attach, project, minus, select, join, rising, inGroup}

@@ -11,19 +11,18 @@ use borrow.Author.Tests.{eq-eqb}
 use lib.Dec.{eqb}
 use lib.ListN.{length, getD, length-append}
 use Rattle.laws.specs.Lists.{any}
-use Rattle.laws.proofs.Filters.{by-cases}
-use Rattle.meaning.specs.Attempt.{fails, gives}
+use Rattle.laws.proofs.Booleans.{by-cases, or-left, or-right}
+use Rattle.laws.specs.Attempt.{fails, gives}
 use Rattle.meaning.specs.World.{World}
 use Rattle.meaning.specs.Query.{Query, QL, QE, QR, QV, QS, QT, QF, QI, QO, QC, QD, QX, free, bound}
 use Rattle.meaning.specs.Operators.{Table, make}
 use Rattle.meaning.specs.Run.{run}
 use Rattle.meaning.specs.Calls.{lastTable}
 use Rattle.meaning.specs.Translation.{Tables, next, hold, then, tr, tailLast, plan}
-use Rattle.meaning.proofs.Closed.{Closed, free-bound}
+use Rattle.theorems.proofs.Closed.{Closed, free-bound}
 use Rattle.agreement.specs.Typed.{Triple, Loop, Vars, holding, sem, semPlan}
 use Rattle.agreement.specs.Encoded.{encodeNumber, HasRows, HasLoop}
 use Rattle.agreement.specs.Machine.{Ran, Simulates, HasFree, Faithful, Ends}
-use Rattle.agreement.proofs.EncodedLists.{or-left, or-right}
 use Rattle.agreement.proofs.Machine.{has-kept, sim-end, sim-then, sim-op}
 use Rattle.agreement.proofs.MachineRules.{sim-L, sim-E, sim-R, sim-S, sim-O, sim-C, sim-D, sim-X, sim-last}
 use Rattle.agreement.proofs.MachineLoops.{Small, sim-F, sim-I}

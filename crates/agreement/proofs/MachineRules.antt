@@ -12,7 +12,7 @@ use Rattle.cells.specs.declared.Function.{Function}
 use Rattle.cells.specs.declared.Axis.{Axis}
 use Rattle.cells.specs.declared.Test.{Test}
 use Rattle.laws.specs.Keyed.{risingBy}
-use Rattle.meaning.specs.Attempt.{gives}
+use Rattle.laws.specs.Attempt.{gives}
 use Rattle.meaning.specs.World.{World}
 use Rattle.meaning.specs.Operators.{Table, rising, inGroup}
 use Rattle.meaning.specs.Translation.{ruleL, ruleE, ruleR, tailS, tailO, tailC, tailD, tailX, tailLast}

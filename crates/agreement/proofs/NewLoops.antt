@@ -19,7 +19,8 @@ use Rattle.laws.specs.Lists.{filter}
 use Rattle.laws.specs.Sorting.{sort}
 use Rattle.laws.specs.Keyed.{Key, risingBy, within, counted, joined}
 use Rattle.laws.proofs.Lists.{All, all-any, all-kept}
-use Rattle.laws.proofs.Filters.{In, by-cases, all-of, in-filter, filter-map, filter-same}
+use Rattle.laws.proofs.Filters.{In, all-of, in-filter, filter-map, filter-same}
+use Rattle.laws.proofs.Booleans.{by-cases}
 use Rattle.laws.proofs.Filters.{all-unmapped}
 use Rattle.laws.proofs.Sorting.{Sorted, Weak, risingBy-weak, filter-sort, all-sort}
 use Rattle.laws.proofs.Numbering.{inTurn, countedAfter-alone, map-inTurn, inTurn-rises, rising-once, AtMostOne}

@@ -12,9 +12,10 @@ use borrow.Author.Tests.{eq-eqb}
 use Rattle.laws.specs.Lists.{filter, gather}
 use Rattle.laws.specs.Keyed.{within, numbersIn}
 use Rattle.laws.proofs.Lists.{All, all-kept}
-use Rattle.laws.proofs.Filters.{by-cases, in-filter, in-none}
+use Rattle.laws.proofs.Filters.{in-filter, in-none}
+use Rattle.laws.proofs.Booleans.{by-cases}
 use Rattle.laws.proofs.Groups.{filled, numbersIn-at, within-gather}
-use Rattle.meaning.specs.Attempt.{Attempt, fails, gives, each}
+use Rattle.laws.specs.Attempt.{Attempt, fails, gives, each}
 use Rattle.agreement.specs.Typed.{Triple, iterOf}
 use Rattle.agreement.specs.Families.{Family, placed, Represents}
 use Rattle.agreement.proofs.Attempts.{got, Outcome, allGive, oneFails, outcome}

@@ -14,8 +14,8 @@ use borrow.Author.Tests.{leb-true, leb-false, ltb-true, ltb-false}
 use lib.Dec.{leb, ltb}
 use lib.IntN.{ℤ, pos}
 use lib.ListN.{length, length-append}
-use Rattle.laws.proofs.Filters.{by-cases}
-use Rattle.meaning.specs.Attempt.{Attempt, fails, gives, Work, full, failed, done, work, trying, within}
+use Rattle.laws.proofs.Booleans.{by-cases}
+use Rattle.laws.specs.Attempt.{Attempt, fails, gives, Work, full, failed, done, work, trying, within}
 use Rattle.meaning.specs.World.{World}
 use Rattle.meaning.specs.Query.{Query, QL, QE, QR, QV, QS, QT, QF, QI, QO, QC, QD, QX}
 use Rattle.meaning.specs.Meaning.{Env, bind, eval}
@@ -23,10 +23,10 @@ use Rattle.meaning.specs.Counted.{Standing, stand, adding, loop, evaluate}
 use Rattle.meaning.specs.Plan.{Placed}
 use Rattle.meaning.specs.Operators.{Table, make}
 use Rattle.meaning.specs.Run.{cells, Filled, running}
-use Rattle.meaning.proofs.Outcomes.{full-done, full-failed}
-use Rattle.meaning.proofs.Counts.{Full, counts}
-use Rattle.meaning.proofs.Counted.{Like, like-failed, like-done, items, evaluate-like, more-room, less-room}
-use Rattle.meaning.proofs.Counted.{running-more, running-less}
+use Rattle.laws.proofs.Outcomes.{full-done, full-failed}
+use Rattle.theorems.proofs.Counts.{Full, counts}
+use Rattle.theorems.proofs.Counted.{Like, like-failed, like-done, items, evaluate-like, more-room, less-room}
+use Rattle.theorems.proofs.Counted.{running-more, running-less}
 use Rattle.agreement.specs.Room.{after, turns, standing, filling}
 
 pub data Exact {A : Type 0} (room k : ℕ) : Work A → Type 0 where

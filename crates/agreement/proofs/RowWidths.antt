@@ -24,19 +24,20 @@ use Rattle.laws.specs.Lists.{filter, gather}
 use Rattle.laws.proofs.Lists.{All, all-map, all-any, all-append, all-kept, all-mapped}
 use Rattle.laws.proofs.Filters.{map-append}
 use Rattle.laws.proofs.Sorting.{all-sort}
-use Rattle.meaning.specs.Attempt.{Attempt, fails, gives, attempt, provided, each, Reading, refuses, reads, Work}
-use Rattle.meaning.specs.Attempt.{done, trying, within}
+use Rattle.laws.specs.Attempt.{Attempt, fails, gives, attempt, provided, each, Reading, refuses, reads, Work}
+use Rattle.laws.specs.Attempt.{done, trying, within, Given, Found}
 use Rattle.meaning.specs.World.{World}
 use Rattle.meaning.specs.Plan.{Op, RT, RA, RP, RU, RD, RS, RJ, RN, RF, RV, RC, RE, RK, RX, RO, tableWidth, upTo6}
 use Rattle.meaning.specs.Plan.{columns, widthOf, Placed, placedAt, operatorAt, lastOf, ended, planFrom, planRead}
 use Rattle.meaning.specs.Operators.{Row, Table, cell, attach, project, minus, select, join, numberedAfter, number}
 use Rattle.meaning.specs.Operators.{added, groups, counts, truths, steps, rooted, tableOf, make}
 use Rattle.meaning.specs.Run.{cells, Filled, running}
-use Rattle.meaning.specs.Calls.{flat, lastTable}
-use Rattle.meaning.proofs.PlanWidths.{attempt-gives, provided-gives}
-use Rattle.meaning.proofs.Outcomes.{gives-same, full-done, failed-done, Given, given-gives, given-any}
-use Rattle.meaning.proofs.Outcomes.{given-attempt, given-provided, Found, found-refuses, found-reads, found-unless}
-use Rattle.meaning.proofs.Outcomes.{found-refusing, found-reading}
+use Rattle.meaning.specs.Calls.{lastTable}
+use Rattle.laws.specs.Rows.{flat}
+use Rattle.theorems.proofs.PlanWidths.{attempt-gives, provided-gives}
+use Rattle.laws.proofs.Outcomes.{gives-same, full-done, failed-done, given-gives, given-any}
+use Rattle.laws.proofs.Outcomes.{given-attempt, given-provided, found-refuses, found-reads, found-unless}
+use Rattle.laws.proofs.Outcomes.{found-refusing, found-reading}
 
 abbrev pub Wide : ℕ → Table → Type 0
 Wide w t = All (λ (r : Row). length r ≡ w) t

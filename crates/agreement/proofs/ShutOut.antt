@@ -10,11 +10,12 @@ use native.Mathlib.Omega.{arith}
 use lib.IntN.{ℤ, pos}
 use lib.ListN.{take, replicate}
 use Rattle.laws.specs.Lists as Lists
+use Rattle.laws.specs.Rows as Rows
 use Rattle.laws.specs.Sorting as Sorting
 use Rattle.cells.specs.Cell as Cell
 use Rattle.cells.specs.Bytes as Bytes
-use Rattle.meaning.specs.Attempt as Attempt
-use Rattle.meaning.specs.Attempt.{reads}
+use Rattle.laws.specs.Attempt as Attempt
+use Rattle.laws.specs.Attempt.{reads}
 use Rattle.meaning.specs.Catalogue as Catalogue
 use Rattle.meaning.specs.World as World
 use Rattle.meaning.specs.Query as Query
@@ -90,7 +91,7 @@ unfolding ten empty tenOps emptyOps bytesOf firstAlone Lists.filter Lists.any Li
     Operators.join Operators.rising Operators.numberedAfter Operators.inGroup Operators.number
     Operators.make Run.run Run.cells Run.running
     Written.operatorBytes
-    Calls.padded Calls.refusal Calls.room Calls.lastTable Calls.flat Calls.runOutcome
+    Rows.padded Calls.refusal Calls.room Calls.lastTable Rows.flat Calls.runOutcome
     Calls.runCall Calls.evaluateOutcome Calls.evaluateCall
 computed =
     record {

@@ -7,13 +7,13 @@ use mathlib.Core.Path.{_≡_, refl, sym, ap, _∙_}
 use mathlib.Core.List.{List, [], _∷_}
 use native.Mathlib.Omega.{arith}
 use lib.IntN.{ℤ}
-use Rattle.meaning.specs.Attempt.{reads, Work}
+use Rattle.laws.specs.Attempt.{reads, Work}
 use Rattle.meaning.specs.World.{worldOf}
 use Rattle.meaning.specs.Counted.{evaluate}
 use Rattle.meaning.specs.Run.{running}
 use Rattle.meaning.specs.Calls.{gives, Outcome, room, runCall, evaluateCall}
-use Rattle.meaning.proofs.Counts.{Measured, measured, settled}
-use Rattle.meaning.proofs.Counted.{running-measured}
+use Rattle.theorems.proofs.Counts.{Measured, measured, settled}
+use Rattle.theorems.proofs.Counted.{running-measured}
 use Rattle.agreement.specs.Promises.{Passed, PlanPassed, stands, fills, SixBelow}
 use Rattle.agreement.proofs.Room.{Exact, exact-short, exact-enough, evaluate-exact, running-exact}
 use Rattle.agreement.proofs.Room.{standing-count, filling-filled}

@@ -18,12 +18,13 @@ use Rattle.laws.specs.Lists.{firsts}
 use Rattle.laws.specs.Sorting.{sort}
 use Rattle.laws.specs.Keyed.{Key, risingBy, within, numbersIn}
 use Rattle.laws.proofs.Lists.{All, Rising, all-any, all-map, all-mapped}
-use Rattle.laws.proofs.Filters.{by-cases, filter-map, map-id}
+use Rattle.laws.proofs.Filters.{filter-map, map-id}
+use Rattle.laws.proofs.Booleans.{by-cases}
 use Rattle.laws.proofs.Sorting.{Sorted, sort-sorted}
 use Rattle.laws.proofs.Groups.{filled, not-filled}
-use Rattle.meaning.specs.Attempt.{Attempt, fails, gives, attempt, each}
+use Rattle.laws.specs.Attempt.{Attempt, fails, gives, attempt, each}
 use Rattle.meaning.specs.World.{World}
-use Rattle.meaning.proofs.Nodes.{Lawful, Before, before-after}
+use Rattle.theorems.proofs.Nodes.{Lawful, Before, before-after}
 use Rattle.agreement.specs.Typed.{Triple, row, iterOf, byNumber, byCell, contexts, stepsOf}
 use Rattle.agreement.specs.Typed.{nodesInOrder, semX}
 use Rattle.agreement.specs.Families.{Family, Mask, placed, Represents, Outside, Agree, agrees, failing}

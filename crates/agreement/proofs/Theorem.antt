@@ -5,9 +5,9 @@ use mathlib.Core.List.{[], _∷_, _++_}
 use mathlib.Core.Bool.{cond}
 use lib.IntN.{pos}
 use lib.ListN.{length}
-use Rattle.meaning.specs.Attempt.{gives, attempt, each}
+use Rattle.laws.specs.Attempt.{gives, attempt, each}
 use Rattle.meaning.specs.World.{World}
-use Rattle.meaning.proofs.Nodes.{Lawful}
+use Rattle.theorems.proofs.Nodes.{Lawful}
 use Rattle.meaning.specs.Query.{Query, QL, QE, QR, QV, QS, QT, QF, QI, QO, QC, QD, QX}
 use Rattle.meaning.specs.Meaning.{Env, bind, apply, values, eval}
 use Rattle.agreement.specs.Typed.{holding, sem, semS, semF, semI, semO, semC, semD, semX}

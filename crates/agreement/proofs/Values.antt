@@ -9,7 +9,7 @@ use lib.IntN.{ℤ}
 use Rattle.laws.specs.Lists.{gather}
 use Rattle.laws.proofs.Lists.{All}
 use Rattle.laws.proofs.Filters.{In}
-use Rattle.meaning.specs.Attempt.{Attempt, fails, gives, attempt}
+use Rattle.laws.specs.Attempt.{Attempt, fails, gives, attempt}
 use Rattle.meaning.specs.World.{World}
 use Rattle.meaning.specs.Meaning.{values}
 use Rattle.agreement.specs.Typed.{Triple, row, iterOf, semD}

@@ -12,11 +12,12 @@ use borrow.Author.Tests.{eqb-true, eq-eqb}
 use Rattle.laws.specs.Lists.{filter}
 use Rattle.laws.specs.Sorting.{sort}
 use Rattle.laws.specs.Keyed.{risingBy, within}
-use Rattle.laws.proofs.Filters.{In, by-cases, all-of, in-filter, in-none, filter-all}
-use Rattle.meaning.specs.Attempt.{gives, attempt}
+use Rattle.laws.proofs.Filters.{In, all-of, in-filter, in-none, filter-all}
+use Rattle.laws.proofs.Booleans.{by-cases}
+use Rattle.laws.specs.Attempt.{gives, attempt}
 use Rattle.meaning.specs.Catalogue.{Catalogue}
 use Rattle.meaning.specs.World.{World, worldOf}
-use Rattle.meaning.proofs.Nodes.{Lawful, lawful}
+use Rattle.theorems.proofs.Nodes.{Lawful, lawful}
 use Rattle.meaning.specs.Query.{Query}
 use Rattle.meaning.specs.Meaning.{eval}
 use Rattle.agreement.specs.Typed.{Triple, iterOf, placeOf, itemOf, byNumber, sem, semLast, semPlan}

@@ -17,7 +17,7 @@ use lib.Dec.{eqb}
 use lib.IntN.{ℤ}
 use Rattle.laws.specs.Lists.{filter}
 use Rattle.laws.specs.Keyed.{within}
-use Rattle.meaning.specs.Attempt.{Attempt, fails, gives}
+use Rattle.laws.specs.Attempt.{Attempt, fails, gives}
 use Rattle.meaning.specs.Meaning.{Env}
 use Rattle.agreement.specs.Typed.{Triple, row, Loop, Vars, Sem, iterOf}
 

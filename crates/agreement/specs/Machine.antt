@@ -11,7 +11,7 @@ use mathlib.Core.List.{List, [], _++_, map}
 use mathlib.Core.Bool.{true}
 use lib.IntN.{ℤ}
 use lib.ListN.{length}
-use Rattle.meaning.specs.Attempt.{Attempt, fails, gives}
+use Rattle.laws.specs.Attempt.{Attempt, fails, gives}
 use Rattle.meaning.specs.World.{World}
 use Rattle.meaning.specs.Query.{Query, free}
 use Rattle.meaning.specs.Meaning.{eval}

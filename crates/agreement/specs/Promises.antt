@@ -27,11 +27,11 @@ use mathlib.Core.Path.{_≡_}
 use mathlib.Core.List.{List, [], _∷_, map}
 use lib.IntN.{ℤ, pos}
 use lib.ListN.{length, take, replicate}
-use Rattle.cells.specs.Bytes.{byteAt}
+use Rattle.cells.specs.Bytes.{Bytes}
 use Rattle.laws.specs.Lists.{gather}
-use Rattle.laws.specs.Rows.{rowsAt}
-use Rattle.meaning.specs.Attempt.{Attempt, fails, reads, reading}
-use Rattle.meaning.specs.Attempt as Attempt
+use Rattle.laws.specs.Rows.{rowsAt, padded, flat}
+use Rattle.laws.specs.Attempt.{Attempt, fails, reads, reading}
+use Rattle.laws.specs.Attempt as Attempt
 use Rattle.meaning.specs.Catalogue.{Catalogue, catalogueRead}
 use Rattle.meaning.specs.World.{worldOf}
 use Rattle.meaning.specs.Query.{Read, queryRead}
@@ -41,12 +41,9 @@ use Rattle.meaning.specs.Operators.{Table, column}
 use Rattle.meaning.specs.Run.{run, running}
 use Rattle.meaning.specs.Translation.{plan}
 use Rattle.meaning.specs.Written.{written}
-use Rattle.meaning.specs.Calls.{Answer, gives, refused, Outcome, padded, room, flat, lastTable, runOutcome}
+use Rattle.meaning.specs.Calls.{Answer, gives, refused, Outcome, room, lastTable, runOutcome}
 use Rattle.meaning.specs.Calls.{catalogueCall, translateCall, runCall, evaluateCall}
 use Rattle.agreement.specs.Room.{standing, filling}
-
-abbrev pub Bytes : List ℕ → Type 0
-Bytes bs = (i : ℕ) → byteAt bs i < 256
 
 pub record Passed (query doc : List ℕ) : Type 0 where
   pub read : Read

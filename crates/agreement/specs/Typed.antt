@@ -26,7 +26,7 @@ use Rattle.cells.specs.declared.Test.{Test}
 use Rattle.laws.specs.Lists.{filter}
 use Rattle.laws.specs.Sorting.{sort}
 use Rattle.laws.specs.Keyed.{Key, risingBy, counted, joined, numbersIn, within, without, unique}
-use Rattle.meaning.specs.Attempt.{Attempt, gives, attempt, provided, each}
+use Rattle.laws.specs.Attempt.{Attempt, gives, attempt, provided, each}
 use Rattle.meaning.specs.World.{World}
 use Rattle.meaning.specs.Query.{Query, QL, QE, QR, QV, QS, QT, QF, QI, QO, QC, QD, QX}
 

@@ -9,7 +9,7 @@ use native.Mathlib.Omega.{arith}
 use mathlib.Core.List.{List, [], _∷_}
 use mathlib.Core.Path.{_≡_, refl, _∙_, ap}
 use lib.ListN.{length}
-use Rattle.meaning.specs.Attempt.{Reading, reads, refuses}
+use Rattle.laws.specs.Attempt.{Reading, reads, refuses}
 use Rattle.meaning.specs.Calls.{gives, refused, catalogueAnswer, catalogueCall}
 use Rattle.meaning.specs.Catalogue.{Catalogue, catalogueOf, catalogueRead}
 use Rattle.catalogue.specs.Answers.{answered}

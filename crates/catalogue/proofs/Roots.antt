@@ -16,7 +16,7 @@ use borrow.Author.Tests.{eq-eqb, ne-eqb}
 use Rattle.cells.specs.Cell.{nodeCell}
 use Rattle.laws.specs.Lists.{filter, below}
 use Rattle.laws.proofs.Lists.{Rising, rising-kept, rising-below}
-use Rattle.meaning.specs.Attempt.{fails, gives, attempt}
+use Rattle.laws.specs.Attempt.{fails, gives, attempt}
 use Rattle.meaning.specs.Catalogue.{Catalogue}
 use Rattle.meaning.specs.World.{roots, member, rootOf}
 use Rattle.catalogue.specs.Ranks.{ranks, rootsFrom}

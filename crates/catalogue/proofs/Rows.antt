@@ -18,7 +18,8 @@ use lib.IntN.{ℤ, pos, negsuc}
 use lib.ListN.{length}
 use borrow.Author.Tests.{le-leb, lt-leb, leb-true, ltb-true, eqb-true, eqb-false}
 use Rattle.cells.specs.Bytes.{byteAt, fits, word}
-use Rattle.meaning.specs.Attempt.{Reading, reads, refuses, unless}
+use Rattle.laws.specs.Attempt.{Reading, reads, refuses, unless}
+use Rattle.laws.proofs.Booleans.{both-true}
 use Rattle.meaning.specs.Catalogue.{Catalogue, catalogueOf, isName, ownSound, rowSound, rowsSound}
 use Rattle.meaning.specs.Catalogue.{element, text, markDN}
 use Rattle.catalogue.specs.Sound.{Own}
@@ -45,10 +46,6 @@ unless-reads true n p x a e = (refl, e)
 unless-reads false n p x a e = let z : _≡_ {A = ℕ} 0 1 = cc in absurd (omega arith)
 
 -- a test of two tests
-pub both : (a b : Bool) → (a && b) ≡ true → (a ≡ true) × (b ≡ true)
-both true b e = (refl, e)
-both false b e = let z : _≡_ {A = ℕ} 0 1 = cc in absurd (omega arith)
-
 named : (z : ℤ) → isName z ≡ true → (p : ℕ) × (z ≡ pos p) × (p < 65536)
 unfolding isName
 named (pos n) e = (n, refl, ltb-true n 65536 e)
@@ -56,14 +53,14 @@ named (negsuc n) e = let z : _≡_ {A = ℕ} 0 1 = cc in absurd (omega arith)
 
 levels : (l most : ℕ) → (leb l most && leb l 63) ≡ true → (l ≤ most) × (l ≤ 63)
 levels l most e =
-    let s = both (leb l most) (leb l 63) e in
+    let s = both-true (leb l most) (leb l 63) e in
     (leb-true l most (s .0), leb-true l 63 (s .1))
 
 -- a row that is no element is a text, with size 0 and level at least 1
 plain : (k s l : ℕ) → (eqb k text && eqb s 0 && leb 1 l) ≡ true → (k ≡ text) × (s ≡ 0) × (1 ≤ l)
 plain k s l e =
-    let t = both (eqb k text && eqb s 0) (leb 1 l) e in
-    let u = both (eqb k text) (eqb s 0) (t .0) in
+    let t = both-true (eqb k text && eqb s 0) (leb 1 l) e in
+    let u = both-true (eqb k text) (eqb s 0) (t .0) in
     (eqb-true k text (u .0), eqb-true s 0 (u .1), leb-true 1 l (t .1))
 
 module _ (c : Catalogue) (r most : ℕ) (levels : (c .level r ≤ most) × (c .level r ≤ 63)) where
@@ -92,7 +89,7 @@ module _ (c : Catalogue) (r most : ℕ) (levels : (c .level r ≤ most) × (c .l
 pub own : (c : Catalogue) (r most : ℕ) → ownSound c r most ≡ true → Own c r most
 unfolding ownSound
 own c r most e =
-    let s = both (leb (c .level r) most && leb (c .level r) 63) (cond (eqb (c .kind r) element) (isName (c .prop r))
+    let s = both-true (leb (c .level r) most && leb (c .level r) 63) (cond (eqb (c .kind r) element) (isName (c .prop r))
     (eqb (c .kind r) text && eqb (c .size r) 0 && leb 1 (c .level r))) e in
     own-of c r most (levels (c .level r) most (s .0)) (eqb (c .kind r) element) refl (s .1)
 
@@ -101,8 +98,8 @@ pub row : (doc : List ℕ) (r most n : ℕ) → rowSound doc r most ≡ true
     → (10 * r + 10 ≤ length doc) × Own (catalogueOf doc n) r most
 unfolding rowSound fits catalogueOf ownSound
 row doc r most n e =
-    let s = both (fits doc (10 * r) 10 && eqb (word doc (10 * r) 2) markDN) (ownSound (catalogueOf doc r) r most) e in
-    let t = both (fits doc (10 * r) 10) (eqb (word doc (10 * r) 2) markDN) (s .0) in
+    let s = both-true (fits doc (10 * r) 10 && eqb (word doc (10 * r) 2) markDN) (ownSound (catalogueOf doc r) r most) e in
+    let t = both-true (fits doc (10 * r) 10) (eqb (word doc (10 * r) 2) markDN) (s .0) in
     (leb-true _ _ (t .0), own (catalogueOf doc n) r most (s .1))
 
 -- what the checks of the rows from r on give, where n rows are there

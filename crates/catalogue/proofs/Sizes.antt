@@ -10,7 +10,7 @@ use native.Mathlib.Omega.{arith}
 use mathlib.Core.Path.{_≡_, refl, ap, subst}
 use lib.Dec.{eqb}
 use borrow.Author.Tests.{le-ltb, lt-ltb, eqb-true}
-use Rattle.meaning.specs.Attempt.{reads}
+use Rattle.laws.specs.Attempt.{reads}
 use Rattle.meaning.specs.Catalogue.{Catalogue, deeper, sizesExact}
 use Rattle.catalogue.proofs.Rows.{unless-reads}
 

@@ -13,7 +13,7 @@ use lib.ListN.{length}
 use borrow.Author.Tests.{lt-ltb, ltb-false}
 use Rattle.cells.specs.Bytes.{int4, signed, word, byteAt}
 use Rattle.cells.specs.Cell.{inRange}
-use Rattle.meaning.specs.Attempt.{Reading, reads, refuses, reading}
+use Rattle.laws.specs.Attempt.{Reading, reads, refuses, reading}
 use Rattle.meaning.specs.Catalogue.{Catalogue, catalogueOf, deeper, rowsSound, sizesExact, catalogueRead}
 use Rattle.catalogue.specs.Nested.{Nested}
 use Rattle.catalogue.specs.Sound.{Own, Sound}

@@ -18,7 +18,7 @@ use lib.IntN.{ℤ}
 use lib.ListN.{length}
 use borrow.Author.Tests.{le-leb, lt-leb, eq-eqb, ne-eqb}
 use Rattle.cells.specs.Bytes.{byteAt, word, fits}
-use Rattle.meaning.specs.Attempt.{fails, gives, reads, refuses, unless, reading}
+use Rattle.laws.specs.Attempt.{fails, gives, reads, refuses, unless, reading}
 use Rattle.meaning.specs.Calls.{catalogueAnswer, catalogueCall}
 use Rattle.meaning.specs.Catalogue.{Catalogue, catalogueOf, markDN, ownSound, rowSound, rowsSound}
 use Rattle.meaning.specs.Catalogue.{deeper, sizesExact, catalogueRead}

@@ -4,8 +4,8 @@
 --     found f        the root that was asked for, or that there is none
 use Prim.Native.Nat.{ℕ}
 use mathlib.Core.List.{[], _∷_}
-use Rattle.meaning.specs.Attempt as Attempt
-use Rattle.meaning.specs.Attempt.{Attempt, fails, Reading, reads, refuses}
+use Rattle.laws.specs.Attempt as Attempt
+use Rattle.laws.specs.Attempt.{Attempt, fails, Reading, reads, refuses}
 use Rattle.meaning.specs.Calls.{Answer, gives, refused}
 use Rattle.catalogue.specs.declared.Checked.{Checked}
 use Rattle.catalogue.specs.declared.Checked.the-variants.{Rows, Unsound}

@@ -1,5 +1,6 @@
 -- Numbers in records are big-endian (document 01, 'Items and cells').
 --     byteAt bs at     the byte at an offset, 0 past the end
+--     Bytes bs         every member is a byte: below 256
 --     word bs at n     the n bytes from an offset on, as one number
 --     signed half u    the signed number whose bits are u, where half is the first pattern that is negative
 --     int4 bs at       the four bytes from an offset on, signed
@@ -7,7 +8,7 @@
 --     fits bs at n     the n bytes from an offset on are all there
 --     bytesOf n u      a number as n bytes
 --     bits8 z          the 64 bits of a cell
-use Prim.Native.Nat.{ℕ, zero, suc, _+_, _*_, _-_, _/_, _%_}
+use Prim.Native.Nat.{ℕ, zero, suc, _+_, _*_, _-_, _/_, _%_, _<_}
 use mathlib.Core.List.{List, [], _∷_, _++_}
 use mathlib.Core.Bool.{Bool, cond}
 use lib.Dec.{ltb, leb}
@@ -16,6 +17,9 @@ use lib.ListN.{length, getD}
 
 abbrev pub byteAt : List ℕ → ℕ → ℕ
 byteAt bs at = getD bs at 0
+
+abbrev pub Bytes : List ℕ → Type 0
+Bytes bs = (i : ℕ) → byteAt bs i < 256
 
 unfoldable pub word : List ℕ → ℕ → ℕ → ℕ
 word bs at zero = 0

@@ -20,7 +20,7 @@ fn print(query: &[u8], doc: &[u8]) {
     let mut work = [0i64; 8192];
     let mut kept = [0i64; 2730];
     let mut text = [0u8; 87488];
-    let n = telling::tell(query, doc, &mut plan, &mut work, &mut kept, &mut text);
+    let n = printing::tell(query, doc, &mut plan, &mut work, &mut kept, &mut text);
     io::write_all(STDOUT_FILENO, &text[0..n]);
 }
 

@@ -20,11 +20,10 @@ use lib.IntN.{ℤ}
 use lib.ListN.{length, getD, set, take, length-append, length-set, List·getD-append}
 use lib.Seq.{getD-set-same, getD-set-other, getD-at, take-add}
 use Rattle.laws.specs.Lists.{gather}
-use Rattle.laws.specs.Rows.{row}
+use Rattle.laws.specs.Rows.{row, flat}
 use Rattle.laws.proofs.Rows.{take-laid, length-rowsAt}
-use Rattle.meaning.specs.Attempt.{Attempt, gives}
+use Rattle.laws.specs.Attempt.{Attempt, gives}
 use Rattle.meaning.specs.Operators.{Table, tableOf}
-use Rattle.meaning.specs.Calls.{flat}
 use Rattle.tables.specs.declared.Stand.{Stand}
 use Rattle.tables.specs.declared.Laid.the-variants.{Rows}
 use Rattle.tables.specs.Layout.{tableAt, Inside, Owes}

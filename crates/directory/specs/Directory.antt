@@ -12,7 +12,7 @@ use lib.IntN.{ℤ}
 use lib.ListN.{length, getD, set, take}
 use Rattle.laws.specs.Lists.{gather}
 use Rattle.meaning.specs.Operators.{Table}
-use Rattle.meaning.specs.Calls.{flat}
+use Rattle.laws.specs.Rows.{flat}
 use Rattle.tables.specs.declared.Stand.{Stand}
 use Rattle.tables.specs.Layout.{tableAt, Inside}
 

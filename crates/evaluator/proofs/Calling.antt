@@ -12,15 +12,15 @@ use denote.Enum.Declared.{tagOf}
 use types.Run.{OneOf, miss}
 use lib.IntN.{ℤ, pos}
 use lib.ListN.{length, take, replicate}
-use Rattle.laws.specs.Rows.{row}
+use Rattle.laws.specs.Rows.{row, padded}
 use Rattle.laws.proofs.Rows.{length-row}
-use Rattle.meaning.specs.Attempt.{Reading, refuses, reads, reading, Work, done}
-use Rattle.meaning.specs.Attempt as Attempt
+use Rattle.laws.specs.Attempt.{Reading, refuses, reads, reading, Work, done}
+use Rattle.laws.specs.Attempt as Attempt
 use Rattle.meaning.specs.Catalogue.{Catalogue, catalogueOf, catalogueRead}
 use Rattle.meaning.specs.World.{worldOf}
 use Rattle.meaning.specs.Query.{Read, queryRead}
 use Rattle.meaning.specs.Counted.{Standing, stand, evaluate}
-use Rattle.meaning.specs.Calls.{gives, refused, Outcome, padded, refusal, room, queryCall, catalogueCall}
+use Rattle.meaning.specs.Calls.{gives, refused, Outcome, refusal, room, queryCall, catalogueCall}
 use Rattle.meaning.specs.Calls.{evaluateOutcome, evaluateCall}
 use Rattle.queries.specs.declared.Checked.{Checked}
 use Rattle.queries.specs.declared.Checked.the-variants as Checked

@@ -11,8 +11,8 @@ use denote.Enum.Declared.{tagOf}
 use types.Run.{OneOf}
 use lib.IntN.{ℤ}
 use Rattle.laws.specs.Rows.{row}
-use Rattle.laws.proofs.Filters.{clash}
-use Rattle.meaning.specs.Attempt.{Attempt, fails, gives, trying, Work, work}
+use Rattle.laws.proofs.Booleans.{clash}
+use Rattle.laws.specs.Attempt.{Attempt, fails, gives, trying, Work, work}
 use Rattle.meaning.specs.World.{World}
 use Rattle.meaning.specs.Query.{Query, QI}
 use Rattle.meaning.specs.Query as Query

@@ -15,7 +15,7 @@ use lib.ListN.{length, take}
 use lib.Seq.{take-take}
 use Rattle.laws.specs.Rows.{row}
 use Rattle.laws.proofs.Rows.{length-row}
-use Rattle.meaning.specs.Attempt.{Work, done, work}
+use Rattle.laws.specs.Attempt.{Work, done, work}
 use Rattle.meaning.specs.World.{World}
 use Rattle.meaning.specs.Counted.{Standing, stand, evaluate}
 use Rattle.queries.specs.Parse.{Parsed}

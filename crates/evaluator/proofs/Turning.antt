@@ -20,7 +20,7 @@ use lib.ListN.{length, take, getD}
 use lib.Seq.{drop-cons}
 use Rattle.laws.specs.Rows.{row}
 use Rattle.laws.proofs.Rows.{length-row}
-use Rattle.meaning.specs.Attempt.{gives, Work, work}
+use Rattle.laws.specs.Attempt.{gives, Work, work}
 use Rattle.meaning.specs.World.{World}
 use Rattle.meaning.specs.Query.{Query, QF}
 use Rattle.meaning.specs.Query as Query

@@ -22,12 +22,12 @@ use Rattle.cells.specs.declared.Axis.{Axis}
 use Rattle.cells.specs.declared.Function.{Function}
 use Rattle.cells.specs.declared.Test.{Test}
 use Rattle.laws.specs.Rows.{row}
-use Rattle.meaning.specs.Attempt.{fails, gives, Work, full, failed, done, work}
+use Rattle.laws.specs.Attempt.{fails, gives, Work, full, failed, done, work}
 use Rattle.meaning.specs.World.{World}
 use Rattle.meaning.specs.Query.{Query, QS, QT, QO, QC, QD, QX}
 use Rattle.meaning.specs.Meaning.{Env}
 use Rattle.meaning.specs.Counted.{Standing, stand, evaluate}
-use Rattle.meaning.proofs.Outcomes.{fails-gives, gives-same}
+use Rattle.laws.proofs.Outcomes.{fails-gives, gives-same}
 use Rattle.queries.specs.Parse.{Parsed, lone, pair}
 use Rattle.queries.proofs.Parsing.{lone-gives, pair-gives}
 use Rattle.stack.specs.declared.Stood.{Stood}

@@ -18,7 +18,7 @@ use mathlib.Core.List.{List, [], _∷_}
 use lib.IntN.{ℤ}
 use lib.ListN.{length, take}
 use Rattle.laws.specs.Rows.{row}
-use Rattle.meaning.specs.Attempt.{gives, Work}
+use Rattle.laws.specs.Attempt.{gives, Work}
 use Rattle.meaning.specs.World.{World}
 use Rattle.meaning.specs.Query.{Query}
 use Rattle.meaning.specs.Meaning.{Env, bind}

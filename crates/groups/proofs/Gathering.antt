@@ -19,9 +19,10 @@ use Rattle.cells.proofs.Cells.{same-eq, same-refl}
 use Rattle.laws.specs.Lists.{filter, all, firsts}
 use Rattle.laws.specs.Rows.{laid}
 use Rattle.laws.proofs.Lists.{All, all-kept}
-use Rattle.laws.proofs.Filters.{by-cases, clash, In, all-in, all-of, in-filter}
+use Rattle.laws.proofs.Filters.{In, all-in, all-of, in-filter}
+use Rattle.laws.proofs.Booleans.{by-cases, clash, both-true}
 use Rattle.laws.proofs.Rows.{rowsAt-laid}
-use Rattle.meaning.specs.Attempt.{Attempt, fails, gives, attempt}
+use Rattle.laws.specs.Attempt.{Attempt, fails, gives, attempt}
 use Rattle.meaning.specs.Catalogue.{Catalogue}
 use Rattle.meaning.specs.World.{World, worldOf, rankOf, ranksOf, reached, step, truth}
 use Rattle.meaning.specs.Operators.{Row, Table, cell, column, groups, groupOf, itemsInOrder, counts, truths, steps}
@@ -36,7 +37,6 @@ use Rattle.groups.specs.declared.Gather.the-variants.{Count, Truth, Step
 use Rattle.members.specs.Grouped.{inFront}
 use Rattle.groups.specs.Gathered.{columnOf, gathered, made, whole, Suits}
 use Rattle.members.specs.Marking.{isNode}
-use Rattle.members.proofs.Climbing.{both-true}
 use Rattle.groups.proofs.Turns.{succeeds-each}
 
 module _ (gather k : Gather) (e : gather ≡ k) where

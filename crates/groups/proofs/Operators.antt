@@ -6,7 +6,7 @@ use mathlib.Core.List.{List}
 use lib.IntN.{ℤ}
 use Rattle.cells.specs.declared.Axis.{Axis}
 use Rattle.cells.specs.declared.Test.{Test}
-use Rattle.meaning.specs.Attempt.{gives}
+use Rattle.laws.specs.Attempt.{gives}
 use Rattle.meaning.specs.World.{World}
 use Rattle.meaning.specs.Plan.{RC, RE, RX}
 use Rattle.meaning.specs.Operators.{Table, counts, truths, steps, tableOf, make}

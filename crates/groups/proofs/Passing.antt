@@ -12,7 +12,7 @@ use denote.Enum.Declared.{tagOf}
 use types.Run.{OneOf}
 use Rattle.cells.specs.Cell.{truthCell}
 use Rattle.laws.specs.Lists.{all}
-use Rattle.meaning.specs.Attempt.{Attempt, fails, gives, attempt}
+use Rattle.laws.specs.Attempt.{Attempt, fails, gives, attempt}
 use Rattle.meaning.specs.Catalogue.{Catalogue}
 use Rattle.meaning.specs.World.{World, worldOf, truth}
 use Rattle.meaning.specs.Operators.{Table, groupOf, itemsInOrder}

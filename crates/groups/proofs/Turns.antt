@@ -18,8 +18,9 @@ use Rattle.cells.specs.Cell.{same}
 use Rattle.cells.proofs.Cells.{same-sym}
 use Rattle.laws.specs.Lists.{filter, any, all, firsts}
 use Rattle.laws.proofs.Lists.{all-any}
-use Rattle.laws.proofs.Filters.{by-cases, clash, filter-all}
-use Rattle.meaning.specs.Attempt.{Attempt, fails, gives, attempt, each}
+use Rattle.laws.proofs.Filters.{filter-all}
+use Rattle.laws.proofs.Booleans.{by-cases, clash}
+use Rattle.laws.specs.Attempt.{Attempt, fails, gives, attempt, each}
 use Rattle.meaning.specs.World.{World}
 use Rattle.meaning.specs.Operators.{Table, column, groups, groupOf}
 use Rattle.tables.specs.Tasks.{succeeds, Settled}

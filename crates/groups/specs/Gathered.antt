@@ -12,7 +12,7 @@ use mathlib.Core.Bool.{Bool, cond}
 use lib.IntN.{ℤ, pos}
 use lib.ListN.{length}
 use Rattle.cells.specs.Cell.{truthCell}
-use Rattle.meaning.specs.Attempt.{Attempt, gives, attempt, each}
+use Rattle.laws.specs.Attempt.{Attempt, gives, attempt, each}
 use Rattle.meaning.specs.World.{World}
 use Rattle.meaning.specs.Operators.{Table, column, groups, groupOf, itemsInOrder}
 use Rattle.steps.specs.Marks.{Ready}

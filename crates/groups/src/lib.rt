@@ -4,7 +4,7 @@ pub mod each;
 ghost use mathlib.Core.Path.{_≡_};
 ghost use Prim.Native.Nat.{_*_, _≤_, _<_};
 ghost use lib.ListN.{length};
-ghost use Rattle.meaning.specs.Attempt.{gives};
+ghost use Rattle.laws.specs.Attempt.{gives};
 ghost use Rattle.meaning.specs.Catalogue.{catalogueOf};
 ghost use Rattle.meaning.specs.Operators;
 ghost use Rattle.meaning.specs.World.{worldOf};

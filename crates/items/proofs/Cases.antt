@@ -27,7 +27,7 @@ use Rattle.cells.specs.declared.Held.{Held}
 use Rattle.cells.specs.declared.Held.the-variants as Held
 use Rattle.laws.proofs.Lists.{All, all-kept, all-below}
 use Rattle.laws.specs.Lists.{below}
-use Rattle.meaning.specs.Attempt.{fails, gives, attempt, provided}
+use Rattle.laws.specs.Attempt.{fails, gives, attempt, provided}
 use Rattle.meaning.specs.Catalogue.{Catalogue, catalogueOf}
 use Rattle.meaning.specs.World as World
 use Rattle.meaning.specs.World.{ranged, integerOf, valueIn, truthFrom, roots, member, rootOf}

@@ -16,7 +16,7 @@ use Rattle.cells.specs.declared.Held.{Held}
 use Rattle.cells.specs.declared.Held.the-variants as Held
 use Rattle.cells.specs.declared.Number.{Number}
 use Rattle.cells.specs.declared.Number.the-variants as Number
-use Rattle.meaning.specs.Attempt.{Attempt, fails, gives, provided}
+use Rattle.laws.specs.Attempt.{Attempt, fails, gives, provided}
 use Rattle.meaning.specs.Catalogue.{Catalogue, text}
 use Rattle.items.specs.declared.Tried.{Tried}
 use Rattle.items.specs.declared.Tried.the-variants as Tried

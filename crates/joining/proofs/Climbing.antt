@@ -20,7 +20,7 @@ use Rattle.cells.proofs.Cells.{before-irrefl, before-asym, before-cotrans, not-
 use Rattle.laws.specs.Rows.{rowsAt}
 use Rattle.laws.proofs.Rows.{length-rowsAt}
 use Rattle.laws.proofs.Lists.{All, all-map}
-use Rattle.laws.proofs.Filters.{clash}
+use Rattle.laws.proofs.Booleans.{clash}
 use Rattle.meaning.specs.Operators.{column}
 use Rattle.tables.specs.declared.Stand.{Stand}
 use Rattle.tables.specs.Layout.{tableAt}

@@ -17,7 +17,7 @@ use Rattle.cells.specs.Cell.{same}
 use Rattle.laws.specs.Lists.{filter}
 use Rattle.laws.specs.Rows.{row, rowsAt, laid}
 use Rattle.laws.proofs.Rows.{row-laid, rowsAt-laid}
-use Rattle.meaning.specs.Attempt.{Attempt, gives, each}
+use Rattle.laws.specs.Attempt.{Attempt, gives, each}
 use Rattle.meaning.specs.Operators.{Row, Table, cell, join}
 use Rattle.tables.specs.declared.Stand.{Stand}
 use Rattle.tables.specs.Layout.{tableAt, Inside}

@@ -9,7 +9,7 @@ ghost use lib.ListN.{length};
 ghost use Rattle.cells.specs.Cell.{same};
 ghost use Rattle.laws.specs.Lists.{filter};
 ghost use Rattle.laws.specs.Rows.{row};
-ghost use Rattle.meaning.specs.Attempt.{gives};
+ghost use Rattle.laws.specs.Attempt.{gives};
 ghost use Rattle.meaning.specs.Operators;
 ghost use Rattle.meaning.specs.Operators.{Row, cell};
 ghost use Rattle.tables.specs.Layout.{tableAt, Inside, Owes};

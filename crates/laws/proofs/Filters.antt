@@ -1,6 +1,4 @@
 -- Laws of `filter`, and members of lists.
---     by-cases b f g           f where b is true, g where it is false
---     clash                    nothing is both true and false
 --     In x xs                  x is a member of xs
 --     all-in, all-of           what is true of all is true of a member, and the other way
 --     filter-append, filter-map ..     filter against the other functions on lists
@@ -15,14 +13,8 @@ use mathlib.Core.List.{List, [], _∷_, _++_, map}
 use mathlib.Core.Bool.{Bool, true, false, true≢false}
 use lib.ListN.{length}
 use Rattle.laws.specs.Lists.{filter, count, gather}
+use Rattle.laws.proofs.Booleans.{by-cases, clash}
 use Rattle.laws.proofs.Lists.{All, all-passed}
-
-pub by-cases : {P : Type 0} (b : Bool) → (b ≡ true → P) → (b ≡ false → P) → P
-by-cases true f g = f refl
-by-cases false f g = g refl
-
-pub clash : {P : Type 0} {b : Bool} → b ≡ true → b ≡ false → P
-clash e d = absurd (true≢false (sym e ∙ d))
 
 module _ {A : Type 0} where
   abbrev pub In : A → List A → Type 0

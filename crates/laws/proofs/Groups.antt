@@ -16,7 +16,8 @@ use borrow.Author.Tests.{eqb-true, eqb-false, eq-eqb, ne-eqb}
 use Rattle.laws.specs.Lists.{filter, any, firsts, gather}
 use Rattle.laws.specs.Keyed.{within, numbersIn, without, unique}
 use Rattle.laws.proofs.Lists.{All, all-map, filter-none}
-use Rattle.laws.proofs.Filters.{by-cases, clash, all-filter, filter-all, filter-sub, filter-comm, filter-same}
+use Rattle.laws.proofs.Filters.{all-filter, filter-all, filter-sub, filter-comm, filter-same}
+use Rattle.laws.proofs.Booleans.{by-cases, clash}
 use Rattle.laws.proofs.Filters.{filter-append, filter-yes, filter-no, tails, no-cons}
 use Rattle.laws.proofs.Joins.{filter-const}
 

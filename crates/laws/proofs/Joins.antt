@@ -13,7 +13,8 @@ use borrow.Author.Tests.{eqb-true, eqb-false, eq-eqb, ne-eqb}
 use Rattle.laws.specs.Lists.{filter, gather}
 use Rattle.laws.specs.Keyed.{joined, within}
 use Rattle.laws.proofs.Lists.{All, all-map}
-use Rattle.laws.proofs.Filters.{by-cases, all-filter, filter-append, filter-map}
+use Rattle.laws.proofs.Filters.{all-filter, filter-append, filter-map}
+use Rattle.laws.proofs.Booleans.{by-cases}
 use Rattle.laws.proofs.Filters.{filter-comm, gather-same}
 
 pub eqb-sym : (m n : ℕ) → eqb m n ≡ eqb n m

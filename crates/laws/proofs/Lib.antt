@@ -1,3 +1,4 @@
+pub mod Booleans
 pub mod Lists
 pub mod Rows
 pub mod Filters
@@ -6,3 +7,4 @@ pub mod Numbering
 pub mod Joins
 pub mod Groups
 pub mod Merging
+pub mod Outcomes

@@ -15,7 +15,8 @@ use borrow.Author.Tests.{eqb-true, ne-eqb, lt-leb, leb-false}
 use Rattle.laws.specs.Lists.{filter}
 use Rattle.laws.specs.Keyed.{countedAfter, within}
 use Rattle.laws.proofs.Lists.{All, all-map, filter-none}
-use Rattle.laws.proofs.Filters.{by-cases, count-filter, count-all, filter-yes, filter-no}
+use Rattle.laws.proofs.Filters.{count-filter, count-all, filter-yes, filter-no}
+use Rattle.laws.proofs.Booleans.{by-cases}
 use Rattle.laws.proofs.Sorting.{Sorted}
 
 module _ {A : Type 0} where

@@ -2,3 +2,4 @@ pub mod Lists
 pub mod Sorting
 pub mod Rows
 pub mod Keyed
+pub mod Attempt

@@ -2,9 +2,12 @@
 --     row xs a w           the w members from a on
 --     rowsAt xs a n w      the n rows of width w from a on
 --     laid xs at vs        xs with vs written over it at `at`
-use Prim.Native.Nat.{ℕ, zero, suc, _+_}
+--     flat rs              the members of all rows in order
+--     padded z n xs        xs, then z up to n members
+use Prim.Native.Nat.{ℕ, zero, suc, _+_, _-_}
 use mathlib.Core.List.{List, [], _∷_, _++_}
-use lib.ListN.{length, take, drop}
+use lib.ListN.{length, take, drop, replicate}
+use Rattle.laws.specs.Lists.{gather}
 
 module _ {A : Type 0} where
   unfoldable pub row : List A → ℕ → ℕ → List A
@@ -16,3 +19,9 @@ module _ {A : Type 0} where
 
   unfoldable pub laid : List A → ℕ → List A → List A
   laid xs at vs = take at xs ++ (vs ++ drop (at + length vs) xs)
+
+  unfoldable pub flat : List (List A) → List A
+  flat t = gather (λ (r : List A). r) t
+
+  unfoldable pub padded : A → ℕ → List A → List A
+  padded z lent xs = xs ++ replicate (lent - length xs) z

@@ -15,10 +15,11 @@ use mathlib.Core.List.{List, [], _∷_, _++_, map}
 use lib.IntN.{ℤ, pos, negsuc}
 use lib.ListN.{take, drop, getD}
 use Rattle.laws.specs.Lists as Lists
+use Rattle.laws.specs.Rows as Rows
 use Rattle.laws.specs.Sorting as Sorting
 use Rattle.cells.specs.Cell as Cell
 use Rattle.cells.specs.Bytes as Bytes
-use Rattle.meaning.specs.Attempt as Attempt
+use Rattle.laws.specs.Attempt as Attempt
 use Rattle.meaning.specs.Catalogue as Catalogue
 use Rattle.meaning.specs.World as World
 use Rattle.meaning.specs.Query as Query
@@ -152,8 +153,8 @@ unfolding evaluated ran answered planBytes itemColumn integer boolean empty root
     Translation.ruleE Translation.tailS Translation.headF Translation.tailF Translation.headI Translation.tailO
     Translation.tailC Translation.tailD Translation.tailX Translation.then Translation.tr Translation.tailLast
     Translation.plan Written.functionNumber Written.axisNumber Written.testNumber Written.testName Written.operatorBytes
-    Written.written Calls.padded Calls.refusal Calls.room Calls.catalogueAnswer Calls.catalogueCall Calls.queryAnswer
-    Calls.queryCall Calls.planOf Calls.translateOutcome Calls.translateCall Calls.lastTable Calls.flat Calls.runOutcome
+    Written.written Rows.padded Calls.refusal Calls.room Calls.catalogueAnswer Calls.catalogueCall Calls.queryAnswer
+    Calls.queryCall Calls.planOf Calls.translateOutcome Calls.translateCall Calls.lastTable Rows.flat Calls.runOutcome
     Calls.runCall Calls.evaluateOutcome Calls.evaluateCall
 told (itemsOf query doc) =
     evaluated (Calls.evaluateCall query doc 200) ∷ ran (Calls.runCall (planBytes query) doc 4000) ∷ []

@@ -1,11 +1,1 @@
 pub mod Examples
-pub mod Outcomes
-pub mod Counts
-pub mod Counted
-pub mod Closed
-pub mod Nodes
-pub mod PlanBound
-pub mod PlanWidths
-pub mod PlanFields
-pub mod PlanBytes
-pub mod PlanRead

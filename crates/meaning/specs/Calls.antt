@@ -2,7 +2,6 @@
 -- stands in the lent slice afterwards. These are what the calls promise.
 --     Answer                 gives its values, in the order that document 01 names them; or refused number place, all else 0
 --     Outcome A              an answer, and what is left in the lent slice
---     padded lent xs         xs, then zeros to the lent length
 --     room lent              the cells that count: the first 65,536
 --     catalogueCall doc      rows                          4
 --     queryCall query        records                       1 2 3
@@ -16,7 +15,8 @@ use lib.Dec.{leb}
 use lib.IntN.{ℤ, pos}
 use lib.ListN.{length, replicate}
 use Rattle.laws.specs.Lists.{gather}
-use Rattle.meaning.specs.Attempt.{Reading, refuses, reads, reading, unless, Work, full, failed, done}
+use Rattle.laws.specs.Rows.{flat, padded}
+use Rattle.laws.specs.Attempt.{Reading, refuses, reads, reading, unless, Work, full, failed, done}
 use Rattle.meaning.specs.Catalogue.{Catalogue, catalogueRead}
 use Rattle.meaning.specs.World.{World, worldOf}
 use Rattle.meaning.specs.Query.{Query, Read, queryRead}
@@ -34,9 +34,6 @@ pub data Answer : Type 0 where
 pub record Outcome (A : Type 0) : Type 0 where
   pub answer : Answer
   pub left : List A
-
-unfoldable pub padded : {A : Type 0} → A → ℕ → List A → List A
-padded z lent xs = xs ++ replicate (lent - length xs) z
 
 -- a refusal zeroes what was lent for writing
 unfoldable pub refusal : {A : Type 0} → A → ℕ → ℕ → ℕ → Outcome A
@@ -73,14 +70,10 @@ translateOutcome lent (reads os) =
 unfoldable pub translateCall : List ℕ → ℕ → Outcome ℕ
 translateCall query lent = translateOutcome lent (reading (queryRead query) (λ r. planOf lent (r .tree)))
 
--- the last table, and the cells of all tables in order
 unfoldable pub lastTable : List Table → Table
 lastTable [] = []
 lastTable (t ∷ []) = t
 lastTable (t ∷ u ∷ ts) = lastTable (u ∷ ts)
-
-unfoldable pub flat : Table → List ℤ
-flat t = gather (λ (r : Row). r) t
 
 unfoldable pub runOutcome : ℕ → Reading (Work Filled) → Outcome ℤ
 runOutcome lent (refuses n p) = refusal (pos 0) lent n p

@@ -11,7 +11,7 @@ use mathlib.Core.Bool.{Bool, true, false, cond}
 use lib.Dec.{leb}
 use lib.IntN.{ℤ, pos}
 use lib.ListN.{length}
-use Rattle.meaning.specs.Attempt.{Work, full, failed, done, work, trying, within}
+use Rattle.laws.specs.Attempt.{Work, full, failed, done, work, trying, within}
 use Rattle.meaning.specs.World.{World}
 use Rattle.meaning.specs.Query.{Query, QL, QE, QR, QV, QS, QT, QF, QI, QO, QC, QD, QX}
 use Rattle.meaning.specs.Meaning.{Env, bind, apply, values}

@@ -1,4 +1,3 @@
-pub mod Attempt
 pub mod Catalogue
 pub mod World
 pub mod Query

@@ -15,7 +15,7 @@ use lib.ListN.{length, getD}
 use Rattle.cells.specs.Cell.{same, before, trueCell, truthCell}
 use Rattle.laws.specs.Lists.{filter, any, count, gather, firsts}
 use Rattle.laws.specs.Sorting.{sort}
-use Rattle.meaning.specs.Attempt.{Attempt, fails, gives, attempt, provided, each}
+use Rattle.laws.specs.Attempt.{Attempt, fails, gives, attempt, provided, each}
 use Rattle.cells.specs.declared.Function.{Function}
 use Rattle.cells.specs.declared.Axis.{Axis}
 use Rattle.cells.specs.declared.Test.{Test}

@@ -18,7 +18,7 @@ use Rattle.cells.specs.declared.Held.the-variants as Held
 use Rattle.cells.specs.Bytes.{byteAt, word, int8, fits}
 use Rattle.cells.specs.Cell.{held}
 use Rattle.laws.specs.Lists.{all}
-use Rattle.meaning.specs.Attempt.{Attempt, fails, gives, attempt, provided, Reading, refuses, reads, reading, refusing, unless}
+use Rattle.laws.specs.Attempt.{Attempt, fails, gives, attempt, provided, Reading, refuses, reads, reading, refusing, unless}
 use Rattle.cells.specs.declared.Function.{Function}
 use Rattle.cells.specs.declared.Axis.{Axis}
 use Rattle.cells.specs.declared.Test.{Test}

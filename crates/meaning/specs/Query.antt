@@ -21,7 +21,7 @@ use Rattle.cells.specs.declared.Test.the-variants.{AnyNode, Element, Text, Name
 use Rattle.cells.specs.Bytes.{byteAt, word, int4, fits}
 use Rattle.cells.specs.Cell.{falseCell, trueCell}
 use Rattle.laws.specs.Lists.{any}
-use Rattle.meaning.specs.Attempt.{Attempt, fails, gives, attempt, provided, Reading, refuses, reads, reading, refusing, unless}
+use Rattle.laws.specs.Attempt.{Attempt, fails, gives, attempt, provided, Reading, refuses, reads, reading, refusing, unless}
 
 pub data Query : Type 0 where
   QL : (at : ℕ) → ℤ → Query  -- an integer (QL) or a boolean (QB), as its cell

@@ -8,7 +8,7 @@ use mathlib.Core.List.{List, [], _∷_, _++_}
 use mathlib.Core.Bool.{Bool, true, false}
 use lib.Dec.{leb}
 use lib.ListN.{length}
-use Rattle.meaning.specs.Attempt.{Attempt, fails, gives, attempt, Work, full, failed, done, work, trying, within}
+use Rattle.laws.specs.Attempt.{Attempt, fails, gives, attempt, Work, full, failed, done, work, trying, within}
 use Rattle.meaning.specs.World.{World}
 use Rattle.meaning.specs.Plan.{Op, Placed}
 use Rattle.meaning.specs.Operators.{Table, make}

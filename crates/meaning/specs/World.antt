@@ -31,7 +31,7 @@ use Rattle.cells.specs.declared.Test.{Test}
 use Rattle.cells.specs.declared.Test.the-variants.{AnyNode, Element, Text, Named}
 use Rattle.cells.specs.Cell.{held, inRange, same, truthCell, nodeCell}
 use Rattle.laws.specs.Lists.{filter, any, below}
-use Rattle.meaning.specs.Attempt.{Attempt, fails, gives, attempt, provided}
+use Rattle.laws.specs.Attempt.{Attempt, fails, gives, attempt, provided}
 use Rattle.meaning.specs.Catalogue.{Catalogue, element, text}
 
 pub record World : Type 0 where

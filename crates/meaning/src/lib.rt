@@ -1,2 +1,2 @@
-// No code: this crate holds the definitions that a reader must believe, and the theorems on them.
+// No code: this crate holds the definitions that a reader must believe, and the marked examples.
 pub fn nothing() {}

@@ -16,17 +16,13 @@ use Rattle.cells.proofs.Cells.{same-eq, not-before-trans, neither-same}
 use Rattle.laws.specs.Lists.{any}
 use Rattle.laws.specs.Rows.{rowsAt}
 use Rattle.laws.proofs.Lists.{All, all-map}
-use Rattle.laws.proofs.Filters.{by-cases, clash}
+use Rattle.laws.proofs.Booleans.{by-cases, clash}
+use Rattle.laws.proofs.Booleans.{both-true}
 use Rattle.meaning.specs.Operators.{Table, column}
 use Rattle.tables.specs.declared.Stand.{Stand}
 use Rattle.tables.specs.Layout.{tableAt}
 use Rattle.members.specs.Grouped.{cellAt, climbs, opening}
 use Rattle.members.proofs.Reading.{length-column, getD-column, column-take, table-above}
-
-pub both-true : (s t : Bool) → (s && t) ≡ true → (s ≡ true) × (t ≡ true)
-both-true true true e = (refl, refl)
-both-true true false e = clash e refl
-both-true false t e = clash e refl
 
 pub not-is : (b : Bool) → not b ≡ true → b ≡ false
 not-is true e = clash e refl

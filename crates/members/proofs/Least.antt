@@ -18,7 +18,7 @@ use Rattle.cells.specs.declared.Held.{Held}
 use Rattle.cells.specs.declared.Held.the-variants as Held
 use Rattle.cells.proofs.Cells.{before-trans, not-before-trans}
 use Rattle.laws.specs.Sorting.{insert, sort}
-use Rattle.laws.proofs.Filters.{by-cases}
+use Rattle.laws.proofs.Booleans.{by-cases}
 use Rattle.laws.proofs.Merging.{length-sort}
 use Rattle.meaning.specs.World.{truth, truthFrom}
 use Rattle.meaning.specs.Operators.{Row, Table, cell, column, rising, groupOf, itemsInOrder}

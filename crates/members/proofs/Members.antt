@@ -17,7 +17,7 @@ use Rattle.cells.specs.Cell.{same}
 use Rattle.cells.proofs.Cells.{same-refl}
 use Rattle.laws.specs.Lists.{filter}
 use Rattle.laws.proofs.Rows.{set-laid, set-more}
-use Rattle.meaning.specs.Attempt.{Attempt, fails, gives, attempt}
+use Rattle.laws.specs.Attempt.{Attempt, fails, gives, attempt}
 use Rattle.meaning.specs.Operators.{Table, groupOf}
 use Rattle.tables.specs.declared.Laid.{Laid}
 use Rattle.tables.specs.declared.Laid.the-variants.{Rows, Full, Fails}

@@ -18,8 +18,8 @@ use Rattle.cells.specs.declared.Axis.{Axis}
 use Rattle.cells.specs.declared.Test.{Test}
 use Rattle.laws.specs.Lists.{all}
 use Rattle.laws.specs.Rows.{laid}
-use Rattle.laws.proofs.Filters.{by-cases}
-use Rattle.meaning.specs.Attempt.{Attempt, fails, gives, attempt}
+use Rattle.laws.proofs.Booleans.{by-cases}
+use Rattle.laws.specs.Attempt.{Attempt, fails, gives, attempt}
 use Rattle.meaning.specs.Catalogue.{Catalogue, catalogueOf}
 use Rattle.meaning.specs.World as World
 use Rattle.meaning.specs.World.{ranksOf}

@@ -16,7 +16,8 @@ use Rattle.cells.specs.Cell.{same, before}
 use Rattle.cells.proofs.Cells.{same-eq, same-refl, neither-same, before-irrefl}
 use Rattle.laws.specs.Lists.{filter, any}
 use Rattle.laws.proofs.Lists.{All, all-map, filter-none}
-use Rattle.laws.proofs.Filters.{by-cases, clash, filter-append, all-unmapped}
+use Rattle.laws.proofs.Filters.{filter-append, all-unmapped}
+use Rattle.laws.proofs.Booleans.{by-cases, clash}
 use Rattle.meaning.specs.Operators.{Row, Table, cell, column, groupOf}
 use Rattle.tables.specs.declared.Stand.{Stand}
 use Rattle.tables.specs.Layout.{tableAt}

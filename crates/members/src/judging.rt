@@ -6,7 +6,7 @@ ghost use Prim.Native.Nat.{_≤_, _<_};
 ghost use lib.ListN.{length, getD, drop};
 ghost use Rattle.cells.specs.Cell;
 ghost use Rattle.items.specs.Answers;
-ghost use Rattle.meaning.specs.Attempt.{gives, attempt};
+ghost use Rattle.laws.specs.Attempt.{gives, attempt};
 ghost use Rattle.meaning.specs.Operators.{groupOf, itemsInOrder};
 ghost use Rattle.meaning.specs.World;
 ghost use Rattle.tables.specs.Layout.{tableAt, Inside, Owes};

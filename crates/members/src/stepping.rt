@@ -4,7 +4,7 @@ ghost use mathlib.Core.List.{[], _∷_, map};
 ghost use Prim.Native.Nat.{_*_, _≤_, _<_};
 ghost use lib.ListN.{length, getD};
 ghost use Rattle.laws.specs.Lists.{all};
-ghost use Rattle.meaning.specs.Attempt.{gives, attempt};
+ghost use Rattle.laws.specs.Attempt.{gives, attempt};
 ghost use Rattle.meaning.specs.Catalogue.{Catalogue, catalogueOf};
 ghost use Rattle.meaning.specs.Operators.{cell, column, groupOf};
 ghost use Rattle.meaning.specs.World;

@@ -17,7 +17,7 @@ use Rattle.cells.specs.Cell.{same, before}
 use Rattle.cells.proofs.Cells.{same-refl, same-eq, neither-same}
 use Rattle.laws.specs.Lists.{count}
 use Rattle.laws.proofs.Lists.{All, all-map}
-use Rattle.laws.proofs.Filters.{by-cases, clash}
+use Rattle.laws.proofs.Booleans.{by-cases, clash}
 use Rattle.laws.proofs.Sorting.{Weak, Sorted}
 use Rattle.laws.proofs.Rows.{length-snoc}
 use Rattle.meaning.specs.Operators.{Row, Table, cell, rising, numberedAfter, inGroup}

@@ -12,14 +12,13 @@ use native.Mathlib.Nat.{le-mul-of-pos-right, mul-le-mul-left, mul-le-mul, mul-co
 use lib.IntN.{ℤ}
 use lib.ListN.{length}
 use Rattle.laws.specs.Lists.{below}
-use Rattle.laws.specs.Rows.{rowsAt, laid}
+use Rattle.laws.specs.Rows.{rowsAt, laid, flat}
 use Rattle.laws.specs.Sorting.{sort}
 use Rattle.laws.proofs.Rows.{length-rowsAt}
 use Rattle.laws.proofs.Merging.{length-sort}
 use Rattle.laws.proofs.Lists.{All}
-use Rattle.meaning.specs.Attempt.{gives}
+use Rattle.laws.specs.Attempt.{gives}
 use Rattle.meaning.specs.Operators.{Row, Table, rising, numberedAfter, inGroup, number}
-use Rattle.meaning.specs.Calls.{flat}
 use Rattle.tables.specs.declared.Stand.{Stand}
 use Rattle.tables.specs.declared.Laid.the-variants.{Rows, Full}
 use Rattle.tables.specs.Layout.{tableAt, Inside, Owes}

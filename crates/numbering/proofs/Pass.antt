@@ -15,12 +15,11 @@ use lib.IntN.{ℤ, pos}
 use lib.ListN.{length, getD, take, drop, length-drop, take-append-drop}
 use lib.Seq.{drop-append-le, take-append-le, length-take-le}
 use Rattle.laws.specs.Lists.{gather}
-use Rattle.laws.specs.Rows.{row, laid}
+use Rattle.laws.specs.Rows.{row, laid, flat}
 use Rattle.laws.proofs.Lists.{All}
-use Rattle.laws.proofs.Filters.{by-cases}
+use Rattle.laws.proofs.Booleans.{by-cases}
 use Rattle.laws.proofs.Rows.{laid-nothing, laid-more, length-laid, take-laid, length-row, getD-row, length-snoc}
 use Rattle.meaning.specs.Operators.{Row, Table, cell, inGroup}
-use Rattle.meaning.specs.Calls.{flat}
 use Rattle.tables.specs.declared.Stand.{Stand}
 use Rattle.numbering.specs.Order.{from}
 use Rattle.numbering.specs.Numbered.{rowOf, counterOf, countedFrom, numberedRows, Ready}

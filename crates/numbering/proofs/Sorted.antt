@@ -21,10 +21,12 @@ use Rattle.laws.specs.Lists.{below, all}
 use Rattle.laws.specs.Rows.{row, rowsAt}
 use Rattle.laws.specs.Sorting.{sort}
 use Rattle.laws.proofs.Lists.{All, all-below}
-use Rattle.laws.proofs.Filters.{by-cases, clash, map-append}
+use Rattle.laws.proofs.Filters.{map-append}
+use Rattle.laws.proofs.Booleans.{by-cases, clash}
 use Rattle.laws.proofs.Sorting.{all-sort, sorted-sort}
 use Rattle.laws.proofs.Merging.{map-sort}
 use Rattle.laws.proofs.Rows.{length-row}
+use Rattle.laws.proofs.Booleans.{both-true}
 use Rattle.meaning.specs.Plan.{columns}
 use Rattle.meaning.specs.Operators.{Table, cell, rising, inGroup, number}
 use Rattle.tables.specs.declared.Stand.{Stand}
@@ -72,10 +74,6 @@ rising-row xs a b w (k ∷ ks) h =
     rw (cell-row xs a w k (h .0), cell-row xs b w k (h .0), rising-row xs a b w ks (h .1))
 
 -- what the plan check asks
-both-true : (a b : Bool) → (a && b) ≡ true → (a ≡ true) × (b ≡ true)
-both-true true b e = (refl, e)
-both-true false b e = clash e refl
-
 all-within : (w : ℕ) (ks : List ℕ) → columns w ks ≡ true → All (λ k. k < w) ks
 unfolding columns all
 all-within w [] e = tt

@@ -6,7 +6,7 @@ mod sorting;
 ghost use mathlib.Core.Path.{_≡_};
 ghost use Prim.Native.Nat.{_+_, _≤_};
 ghost use lib.ListN.{length};
-ghost use Rattle.meaning.specs.Attempt.{gives};
+ghost use Rattle.laws.specs.Attempt.{gives};
 ghost use Rattle.meaning.specs.Operators;
 ghost use Rattle.tables.specs.Layout.{tableAt, Inside, Owes};
 ghost use Rattle.numbering.specs.Order.{columnsOf, Suits};

@@ -10,7 +10,7 @@ use lib.Dec.{eqb, ltb}
 use lib.IntN.{ℤ}
 use lib.ListN.{length}
 use Rattle.cells.specs.Bytes.{byteAt}
-use Rattle.meaning.specs.Attempt.{gives}
+use Rattle.laws.specs.Attempt.{gives}
 use Rattle.meaning.specs.Operators.{Table, number}
 use Rattle.meaning.specs.Plan.{columns, columnsAt}
 use Rattle.tables.specs.declared.Laid.{Laid}

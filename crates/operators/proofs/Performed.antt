@@ -7,7 +7,7 @@ use lib.IntN.{ℤ, pos}
 use Rattle.cells.specs.declared.Axis.{Axis}
 use Rattle.cells.specs.declared.Function.{Function}
 use Rattle.cells.specs.declared.Test.{Test}
-use Rattle.meaning.specs.Attempt.{Attempt, gives, provided, each}
+use Rattle.laws.specs.Attempt.{Attempt, gives, provided, each}
 use Rattle.meaning.specs.Catalogue.{Catalogue}
 use Rattle.meaning.specs.Operators as Operators
 use Rattle.meaning.specs.Operators.{Table, tableOf, make}

@@ -5,7 +5,7 @@ ghost use mathlib.Core.List.{_++_};
 ghost use Prim.Native.Nat.{_+_, _*_, _≤_, _<_};
 ghost use lib.Dec.{eqb, ltb};
 ghost use lib.ListN.{length};
-ghost use Rattle.meaning.specs.Attempt.{gives, provided, each};
+ghost use Rattle.laws.specs.Attempt.{gives, provided, each};
 ghost use Rattle.meaning.specs.Catalogue.{catalogueOf};
 ghost use Rattle.meaning.specs.Operators;
 ghost use Rattle.meaning.specs.Plan.{columns, columnsAt};

@@ -17,7 +17,7 @@ use Rattle.cells.specs.Cell.{held}
 use Rattle.cells.specs.declared.Axis.{Axis}
 use Rattle.cells.specs.declared.Test.{Test}
 use Rattle.cells.specs.declared.Function.{Function}
-use Rattle.meaning.specs.Attempt.{Attempt, fails, gives, attempt, provided}
+use Rattle.laws.specs.Attempt.{Attempt, fails, gives, attempt, provided}
 use Rattle.meaning.specs.Query.{functionOf, axisOf, testOf, fragmentOf}
 use Rattle.meaning.specs.Plan as Plan
 use Rattle.meaning.specs.Plan.{Op, RP, RN, sized, field, table, plainIn, attachAt, projectAt, numberAt, functionAt, stepAt}

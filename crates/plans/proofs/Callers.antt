@@ -18,14 +18,15 @@ use borrow.Author.Tests.{ltb-true, leb-true, leb-false, eqb-true}
 use lib.Dec.{eqb, ltb, leb}
 use lib.ListN.{length, getD, take, drop, length-append}
 use lib.Seq.{drop-cons}
-use Rattle.cells.specs.Bytes.{byteAt}
-use Rattle.meaning.specs.Attempt.{Attempt, fails, gives, attempt, provided, Reading, refuses, reads, reading, refusing}
-use Rattle.meaning.specs.Attempt.{unless}
+use Rattle.cells.specs.Bytes.{byteAt, Bytes}
+use Rattle.laws.specs.Attempt.{Attempt, fails, gives, attempt, provided, Reading, refuses, reads, reading, refusing}
+use Rattle.laws.specs.Attempt.{unless}
 use Rattle.meaning.specs.Plan.{Op, Placed, columnsAt, columns, tableWidth, widthOf, operatorAt, placedAt, lastOf, ended}
 use Rattle.meaning.specs.Plan.{planFrom, planRead}
-use Rattle.meaning.proofs.Outcomes.{reads-same, refuses-reads, gives-same}
-use Rattle.meaning.proofs.PlanFields.{Own, Width}
-use Rattle.meaning.proofs.PlanWidths.{Every, and-true, attempt-gives, provided-gives}
+use Rattle.laws.proofs.Outcomes.{reads-same, refuses-reads, gives-same}
+use Rattle.theorems.proofs.PlanFields.{Own, Width}
+use Rattle.theorems.proofs.PlanWidths.{Every, attempt-gives, provided-gives}
+use Rattle.laws.proofs.Booleans.{both-true}
 use Rattle.plans.specs.declared.Operator.{Operator}
 use Rattle.plans.specs.declared.Operator.the-variants as Operator
 use Rattle.plans.specs.declared.Decoded.{Decoded}
@@ -36,7 +37,7 @@ use Rattle.plans.specs.declared.Checked.the-variants.{Operators, Unsound
 use Rattle.plans.specs.declared.widths.Operands.the-variants.{None, Of}
 use Rattle.plans.specs.Decoded.{operatorOf, Stands, Means}
 use Rattle.plans.specs.Widths.{tablesOf, suitable, madeWidth}
-use Rattle.plans.specs.Walk.{checked, planCount, Bytes, widthsOf, Walk}
+use Rattle.plans.specs.Walk.{checked, planCount, widthsOf, Walk}
 use Rattle.plans.specs.Accepted.{Suited, Fitting, Ahead, Turn, placed}
 use Rattle.plans.proofs.Columns.{columns-length}
 use Rattle.plans.proofs.Fields.{operator-ends}
@@ -259,26 +260,26 @@ unfolding Suited suitable operatorOf Own Stands
 suited-all bs Operator.One w v s k e = tt
 suited-all bs (Operator.Attach t z) w v s k e = (leb-true (w + 1) 6 e, k)
 suited-all bs (Operator.Project t n from) w v s k e =
-    let (p, q) = and-true _ _ e in
+    let (p, q) = both-true _ _ e in
     let l = columns-length bs from n s in
     (p, s, omega arith, omega (arith, leb-true (length (columnsAt bs from n)) 6 q))
 suited-all bs (Operator.Union t u) w v s k e = eqb-true w v e
 suited-all bs (Operator.Minus t u) w v s k e = eqb-true w v e
 suited-all bs (Operator.Select t c) w v s k e = ltb-true c w e
 suited-all bs (Operator.Join t c u d) w v s k e =
-    let (p, q) = and-true _ _ e in
-    let (i, j) = and-true _ _ p in
+    let (p, q) = both-true _ _ e in
+    let (i, j) = both-true _ _ p in
     (ltb-true c w i, ltb-true d v j, leb-true (w + v) 6 q)
 suited-all bs (Operator.Number t p n from) w v s k e =
-    let (i, j) = and-true _ _ e in
+    let (i, j) = both-true _ _ e in
     let l = columns-length bs from n s in
     (i, s, omega arith, omega arith, leb-true (w + 1) 6 j)
 suited-all bs (Operator.Apply t f c d) w v s k e =
-    let (p, q) = and-true _ _ e in
-    let (i, j) = and-true _ _ p in
+    let (p, q) = both-true _ _ e in
+    let (i, j) = both-true _ _ p in
     (ltb-true c w i, ltb-true d w j, leb-true (w + 1) 6 q)
 suited-all bs (Operator.Value t c) w v s k e =
-    let (p, q) = and-true _ _ e in
+    let (p, q) = both-true _ _ e in
     (ltb-true c w p, leb-true (w + 1) 6 q)
 suited-all bs (Operator.Counts t c) w v s k e = ltb-true c w e
 suited-all bs (Operator.Truths t) w v s k e = eqb-true w 3 e

@@ -14,10 +14,10 @@ use borrow.Author.Tests.{eq-eqb, ne-eqb}
 use lib.Dec.{eqb}
 use lib.ListN.{length, getD, take, set, length-append, length-set}
 use lib.Seq.{take-suc-set, getD-take}
-use Rattle.meaning.specs.Attempt.{Attempt, fails, gives, Reading, refuses, reads, reading, unless}
+use Rattle.laws.specs.Attempt.{Attempt, fails, gives, Reading, refuses, reads, reading, unless}
 use Rattle.meaning.specs.Plan.{Op, Placed, operatorAt, widthOf, lastOf, ended, planRead}
-use Rattle.meaning.proofs.PlanFields.{Width}
-use Rattle.meaning.proofs.PlanWidths.{Every}
+use Rattle.theorems.proofs.PlanFields.{Width}
+use Rattle.theorems.proofs.PlanWidths.{Every}
 use Rattle.plans.specs.declared.Operator.{Operator}
 use Rattle.plans.specs.declared.Decoded.{Decoded}
 use Rattle.plans.specs.declared.Reading.{Reading as Read}
@@ -27,7 +27,8 @@ use Rattle.plans.specs.declared.widths.Width.{Width as Found}
 use Rattle.plans.specs.declared.widths.Width.the-variants as Found
 use Rattle.plans.specs.Decoded.{operatorOf, readingOf, Stands, Standing, Means}
 use Rattle.plans.specs.Widths.{widthField}
-use Rattle.plans.specs.Walk.{checked, planCount, Bytes, widthsOf, lastAt, Walk, Checking}
+use Rattle.plans.specs.Walk.{checked, planCount, widthsOf, lastAt, Walk, Checking}
+use Rattle.cells.specs.Bytes.{Bytes}
 use Rattle.plans.proofs.Fields.{operator-ends}
 use Rattle.plans.proofs.Walking.{walk-start, walk-end, walk-excess, walk-bad, walk-on, last-at, last-width}
 use Rattle.plans.proofs.Walking.{widths-more, unplaced, misplaced}

@@ -9,23 +9,23 @@ use borrow.Author.Tests.{leb-true}
 use lib.Dec.{eqb, leb}
 use lib.ListN.{length}
 use lib.IntN.{ℤ}
-use Rattle.cells.specs.Bytes.{word, int8, fits}
+use Rattle.cells.specs.Bytes.{word, int8, fits, Bytes}
 use Rattle.cells.specs.declared.Test.{Test}
-use Rattle.meaning.specs.Attempt.{Attempt, gives, attempt}
+use Rattle.laws.specs.Attempt.{Attempt, gives, attempt, Given}
 use Rattle.meaning.specs.Query.{functionOf, testOf, fragmentOf}
 use Rattle.meaning.specs.Written.{testName}
 use Rattle.meaning.specs.Plan.{Op, sized, field, attachAt, projectAt, numberAt, functionAt, stepAt, operatorOf, operatorAt}
 use Rattle.meaning.specs.Plan.{markRT, markRA, markRP, markRU, markRD, markRS, markRJ, markRN, markRF, markRC, markRE}
 use Rattle.meaning.specs.Plan.{markRK, markRX, markRO}
-use Rattle.meaning.proofs.PlanFields.{Own}
-use Rattle.meaning.proofs.PlanWidths.{and-true}
-use Rattle.meaning.proofs.Outcomes.{Given, given-fails, given-gives, given-cond, given-provided, given-attempt, given-any}
-use Rattle.plans.specs.Walk.{Bytes, Ends}
+use Rattle.theorems.proofs.PlanFields.{Own}
+use Rattle.laws.proofs.Booleans.{both-true}
+use Rattle.laws.proofs.Outcomes.{given-fails, given-gives, given-cond, given-provided, given-attempt, given-any}
+use Rattle.plans.specs.Walk.{Ends}
 use Rattle.plans.proofs.Columns.{columns-length}
 
 within : (lo hi n : ℕ) → leb lo n && leb n hi ≡ true → (lo ≤ n) × (n ≤ hi)
 within lo hi n t =
-    let (l, u) = and-true _ _ t in
+    let (l, u) = both-true _ _ t in
     (leb-true lo n l, leb-true n hi u)
 
 name-fits : (n name : ℕ) → name < 65536 → Given (λ (y : Test). testName y < 65536) (testOf n name)

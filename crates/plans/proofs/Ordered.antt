@@ -11,7 +11,7 @@ use borrow.Author.Tests.{lt-ltb, le-ltb}
 use lib.Dec.{eqb, ltb, leb}
 use lib.ListN.{length, take, getD, length-take}
 use lib.Seq.{getD-take}
-use Rattle.meaning.specs.Attempt.{Attempt, fails, gives, attempt, provided}
+use Rattle.laws.specs.Attempt.{Attempt, fails, gives, attempt, provided}
 use Rattle.meaning.specs.Plan.{columns, columnsAt, tableWidth, upTo6, widthOf}
 use Rattle.plans.specs.declared.Operator.{Operator}
 use Rattle.plans.specs.declared.Operator.the-variants as Operator

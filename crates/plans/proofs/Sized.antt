@@ -9,7 +9,7 @@ use native.Mathlib.Omega.{arith}
 use borrow.Author.Tests.{leb-false, lt-leb}
 use lib.ListN.{length}
 use Rattle.cells.specs.Bytes.{fits}
-use Rattle.meaning.specs.Attempt.{Attempt, fails, gives, attempt, provided}
+use Rattle.laws.specs.Attempt.{Attempt, fails, gives, attempt, provided}
 use Rattle.meaning.specs.Plan.{Op, sized}
 use Rattle.queries.proofs.Arms.{fits-cut, fits-there, fits-room}
 use Rattle.plans.specs.declared.Operator.{Operator}

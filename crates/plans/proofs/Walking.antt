@@ -11,11 +11,12 @@ use native.Mathlib.Omega.{arith}
 use borrow.Author.Tests.{le-leb, lt-leb}
 use lib.Dec.{leb, eqb}
 use lib.ListN.{length, getD, length-append}
-use Rattle.meaning.specs.Attempt.{Attempt, fails, gives, attempt, Reading, refuses, reads, reading, refusing, unless}
+use Rattle.laws.specs.Attempt.{Attempt, fails, gives, attempt, Reading, refuses, reads, reading, refusing, unless}
 use Rattle.meaning.specs.Plan.{Op, Placed, operatorAt, widthOf, placedAt, lastOf, ended, planFrom, planRead}
-use Rattle.meaning.proofs.PlanFields.{Width, widths-checked}
-use Rattle.meaning.proofs.PlanWidths.{Every, widths}
-use Rattle.plans.specs.Walk.{Bytes, widthsOf, lastAt, Walk}
+use Rattle.theorems.proofs.PlanFields.{Width, widths-checked}
+use Rattle.theorems.proofs.PlanWidths.{Every, widths}
+use Rattle.plans.specs.Walk.{widthsOf, lastAt, Walk}
+use Rattle.cells.specs.Bytes.{Bytes}
 use Rattle.plans.proofs.Fields.{operator-ends}
 
 -- At the end of the bytes, and before it

@@ -10,10 +10,10 @@ use mathlib.Core.List.{List, [], _∷_, _++_}
 use lib.Dec.{eqb, ltb}
 use lib.ListN.{length, getD}
 use Rattle.cells.specs.Cell.{held}
-use Rattle.meaning.specs.Attempt.{gives, reads}
+use Rattle.laws.specs.Attempt.{gives, reads}
 use Rattle.meaning.specs.Written.{testName}
 use Rattle.meaning.specs.Plan.{Op, Placed, plainIn, columnsAt, columns, widthOf, operatorAt, planRead}
-use Rattle.meaning.proofs.PlanFields.{Own, Width}
+use Rattle.theorems.proofs.PlanFields.{Own, Width}
 use Rattle.plans.specs.declared.Operator.{Operator}
 use Rattle.plans.specs.declared.Operator.the-variants as Operator
 use Rattle.plans.specs.declared.Decoded.{Decoded}

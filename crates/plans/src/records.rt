@@ -2,7 +2,7 @@
 ghost use mathlib.Core.Path.{_≡_};
 ghost use Rattle.cells.specs.Cell;
 ghost use lib.Dec.{eqb};
-ghost use Rattle.meaning.specs.Attempt.{gives, provided};
+ghost use Rattle.laws.specs.Attempt.{gives, provided};
 ghost use Rattle.meaning.specs.Plan;
 ghost use Rattle.meaning.specs.Query;
 ghost use Rattle.plans.specs.Decoded.{Means, functionField, axisField, testField};

@@ -8,13 +8,13 @@ use borrow.Author.Tests.{eqb-true}
 use lib.Dec.{ltb, eqb}
 use lib.ListN.{length}
 use Rattle.cells.specs.Bytes.{word}
-use Rattle.meaning.specs.Attempt.{Attempt, gives, attempt, Reading, reads}
+use Rattle.laws.specs.Attempt.{Attempt, gives, attempt, Reading, reads, Given, Found}
 use Rattle.meaning.specs.Query.{Query, QS, QT, QF, QI, QO, QC, QD, QX, Record, literal, empty, root}
 use Rattle.meaning.specs.Query.{variable, sequence, letting, for, choice, function, counting, values, step, recordOf}
 use Rattle.meaning.specs.Query.{recordAt, Read, Operand, bound, leaf, one, two, three, operands, read, queryRead}
-use Rattle.meaning.proofs.Outcomes.{Given, Found, found-refuses, found-reads, found-unless, found-refusing}
-use Rattle.meaning.proofs.Outcomes.{found-reading}
-use Rattle.meaning.proofs.Closed.{accepted}
+use Rattle.laws.proofs.Outcomes.{found-refuses, found-reads, found-unless, found-refusing}
+use Rattle.laws.proofs.Outcomes.{found-reading}
+use Rattle.theorems.proofs.Closed.{accepted}
 use Rattle.queries.specs.Parse.{Parsed, lone, pair, triple, trees, parse}
 use Rattle.queries.specs.Statements.{Parses, Accepted}
 

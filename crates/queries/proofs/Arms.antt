@@ -18,7 +18,7 @@ use lib.ListN.{length}
 use Rattle.cells.specs.Bytes.{byteAt, word, fits}
 use Rattle.cells.specs.declared.Axis.{Axis}
 use Rattle.cells.specs.declared.Test.{Test}
-use Rattle.meaning.specs.Attempt.{Attempt, fails, gives, attempt, provided}
+use Rattle.laws.specs.Attempt.{Attempt, fails, gives, attempt, provided}
 use Rattle.meaning.specs.Query as Query
 use Rattle.meaning.specs.Query.{markQL, markQB, markQE, markQR, markQV, markQS, markQT, markQF, markQI, markQO, markQC}
 use Rattle.meaning.specs.Query.{markQD, markQX, sized, functionOf, axisOf, testOf, variableOf, booleanOf}

@@ -13,7 +13,7 @@ use native.Mathlib.Omega.{arith}
 use denote.Enum.Declared.{tagOf}
 use types.Run.{OneOf, miss}
 use Rattle.cells.specs.Bytes.{word}
-use Rattle.meaning.specs.Attempt.{fails, gives, attempt, Reading, refuses, reads}
+use Rattle.laws.specs.Attempt.{fails, gives, attempt, Reading, refuses, reads}
 use Rattle.meaning.specs.Query.{Read, recordOf, queryRead}
 use Rattle.meaning.specs.Calls.{Answer, refused, queryAnswer, queryCall}
 use Rattle.queries.specs.declared.Reading.{Reading as Found}

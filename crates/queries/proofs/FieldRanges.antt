@@ -6,18 +6,18 @@ use mathlib.Core.List.{List}
 use mathlib.Core.Logic.{inl, inr}
 use native.Mathlib.Omega.{arith}
 use lib.Dec.{eqb}
-use Rattle.cells.specs.Bytes.{byteAt, word, int4}
+use Rattle.cells.specs.Bytes.{byteAt, word, int4, Bytes}
 use Rattle.cells.proofs.Bits.{signed-in}
 use Rattle.cells.proofs.Holding.{mag-range}
-use Rattle.meaning.specs.Attempt.{Attempt, gives, attempt}
+use Rattle.laws.specs.Attempt.{Attempt, gives, attempt, Given}
 use Rattle.meaning.specs.Query as Query
 use Rattle.meaning.specs.Query.{Query, QS, QT, QF, QI, QO, QC, QD, QX, Record, testOf, booleanOf}
 use Rattle.meaning.specs.Query.{sized}
 use Rattle.meaning.specs.Query.{recordOf}
-use Rattle.meaning.proofs.Outcomes.{Given, given-fails, given-gives, given-cond, given-provided, given-attempt}
-use Rattle.meaning.proofs.Outcomes.{given-any}
+use Rattle.laws.proofs.Outcomes.{given-fails, given-gives, given-cond, given-provided, given-attempt}
+use Rattle.laws.proofs.Outcomes.{given-any}
 use Rattle.queries.specs.Parse.{Parsed, lone, pair, triple, trees, parse}
-use Rattle.queries.specs.Statements.{Bytes, PlainCell, NameFits, Written, Fielded, Ranged}
+use Rattle.queries.specs.Statements.{PlainCell, NameFits, Written, Fielded, Ranged}
 use Rattle.queries.proofs.Fields.{record-given}
 
 -- The fields of a record

@@ -10,17 +10,14 @@ use borrow.Author.Tests.{leb-true, ltb-true}
 use lib.Dec.{eqb}
 use lib.ListN.{length}
 use Rattle.cells.specs.Bytes.{byteAt, fits}
-use Rattle.meaning.specs.Attempt.{Attempt, gives, attempt}
+use Rattle.laws.specs.Attempt.{Attempt, gives, attempt, Given}
 use Rattle.meaning.specs.Query.{Record, root, variable, letting, for, markQL, markQB, markQE, markQR, markQV, markQS}
 use Rattle.meaning.specs.Query.{markQT, markQF, markQI, markQO, markQC, markQD, markQX, variableOf, fragmentOf, sized}
 use Rattle.meaning.specs.Query.{recordOf}
-use Rattle.meaning.proofs.Outcomes.{Given, given-fails, given-gives, given-cond, given-provided, given-attempt}
-use Rattle.meaning.proofs.Outcomes.{given-any}
+use Rattle.laws.proofs.Outcomes.{given-fails, given-gives, given-cond, given-provided, given-attempt}
+use Rattle.laws.proofs.Outcomes.{given-any}
+use Rattle.laws.proofs.Booleans.{both-true}
 use Rattle.queries.specs.Statements.{Ranged, Sound}
-
-and-true : (a b : Bool) → a && b ≡ true → (a ≡ true) × (b ≡ true)
-and-true true b e = (refl, e)
-and-true false b e = absurd (false≢true e)
 
 variable-below : (b : ℕ) → Given (λ v. v < 8) (variableOf b)
 unfolding variableOf
@@ -30,7 +27,7 @@ fragment-within : (b : ℕ) → Given (λ k. (1 ≤ k) × (k ≤ 255)) (fragment
 unfolding fragmentOf
 fragment-within b =
     given-provided _
-    (λ t. let (l, u) = and-true _ _ t in given-gives (leb-true 1 b l, leb-true b 255 u))
+    (λ t. let (l, u) = both-true _ _ t in given-gives (leb-true 1 b l, leb-true b 255 u))
 
 module _ (bs : List ℕ) (at : ℕ) where
   sized-sound : (n : ℕ) (a : Attempt Record) → 0 < n → Given Ranged a → Given (Sound bs at) (sized bs at n a)

@@ -6,8 +6,8 @@
 use Prim.Native.Nat.{ℕ}
 use mathlib.Core.Path.{_≡_, refl, ap}
 use mathlib.Core.Bool.{Bool, true, false, cond}
-use Rattle.meaning.specs.Attempt.{Attempt, fails, gives, attempt, provided, reads, refusing}
-use Rattle.meaning.proofs.Outcomes.{fails-gives, refuses-reads, reads-same}
+use Rattle.laws.specs.Attempt.{Attempt, fails, gives, attempt, provided, reads, refusing}
+use Rattle.laws.proofs.Outcomes.{fails-gives, refuses-reads, reads-same}
 
 module _ {A : Type 0} where
   pub provided-apart : (t : Bool) (r : Attempt A) (y : A) → provided t r ≡ gives y → (t ≡ true) × (r ≡ gives y)

@@ -12,7 +12,7 @@ use native.Mathlib.Omega.{arith}
 use lib.Dec.{eqb}
 use lib.ListN.{length}
 use Rattle.cells.specs.Bytes.{word}
-use Rattle.meaning.specs.Attempt.{Attempt, gives, attempt}
+use Rattle.laws.specs.Attempt.{Attempt, gives, attempt}
 use Rattle.meaning.specs.Query.{Query, QL, QE, QR, QS, QT, QF, QI, QO, QC, QD, QX, Record, literal, empty, root}
 use Rattle.meaning.specs.Query.{variable, sequence, letting, for, choice, function, counting, values, step, recordOf}
 use Rattle.meaning.specs.Query.{free}
@@ -20,7 +20,7 @@ use Rattle.queries.specs.declared.Operands.{Operands}
 use Rattle.queries.specs.declared.Operands.the-variants.{None, Variable, One, Two, Binding, Three}
 use Rattle.queries.specs.Decoded.{operandsOf}
 use Rattle.queries.specs.Parse.{Parsed, lone, pair, triple, trees, parse}
-use Rattle.meaning.proofs.Outcomes.{fails-gives, gives-same}
+use Rattle.laws.proofs.Outcomes.{fails-gives, gives-same}
 use Rattle.queries.proofs.Outcomes.{attempt-apart}
 use Rattle.queries.specs.Statements.{More, Spans}
 use Rattle.queries.proofs.Fields.{record-sound}

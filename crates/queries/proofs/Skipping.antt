@@ -15,7 +15,7 @@ use lib.Dec.{eqb}
 use lib.ListN.{length, getD, set, replicate, getD-replicate, List·getD-eq-default}
 use lib.Seq.{getD-set-same, getD-set-other, set-out}
 use Rattle.cells.specs.Bytes.{word}
-use Rattle.meaning.specs.Attempt.{gives}
+use Rattle.laws.specs.Attempt.{gives}
 use Rattle.meaning.specs.Query.{Query, recordOf, free}
 use Rattle.queries.specs.declared.Reading.{Reading as Found}
 use Rattle.queries.specs.declared.Reading.the-variants as Found
@@ -25,7 +25,7 @@ use Rattle.queries.specs.declared.Operands.the-variants.{None, Variable,
 use Rattle.queries.specs.Decoded as Code
 use Rattle.queries.specs.Decoded.{Means, operandsOf}
 use Rattle.queries.specs.Parse.{Parsed, parse, Past, Free, Either}
-use Rattle.meaning.proofs.Outcomes.{fails-gives}
+use Rattle.laws.proofs.Outcomes.{fails-gives}
 use Rattle.queries.proofs.Parsing.{trees-spans}
 use Rattle.queries.proofs.Callers.{unfound-parses, found-parses, shallow-parses}
 use Rattle.queries.specs.Statements.{Spans}

@@ -20,7 +20,7 @@ use denote.Enum.Declared.{tagOf}
 use types.Run.{OneOf, miss}
 use Rattle.cells.specs.Bytes.{word}
 use Rattle.laws.specs.Lists.{any}
-use Rattle.meaning.specs.Attempt.{gives, Reading, refuses, reads, reading, unless, refusing}
+use Rattle.laws.specs.Attempt.{gives, Reading, refuses, reads, reading, unless, refusing}
 use Rattle.meaning.specs.Query as Query
 use Rattle.meaning.specs.Query.{Query, Read, Record, Operand, bound, leaf, one, operands, read, recordAt, recordOf}
 use Rattle.meaning.specs.Query.{queryRead}

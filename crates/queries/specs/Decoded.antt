@@ -14,7 +14,7 @@ use Rattle.cells.specs.Cell.{cellOf}
 use Rattle.cells.specs.Small.{Small}
 use Rattle.cells.specs.declared.Axis.{Axis}
 use Rattle.cells.specs.declared.Test.{Test}
-use Rattle.meaning.specs.Attempt.{Attempt, fails, gives, Reading, refuses, reads}
+use Rattle.laws.specs.Attempt.{Attempt, fails, gives, Reading, refuses, reads}
 use Rattle.meaning.specs.Query as Query
 use Rattle.meaning.specs.Calls.{Answer, refused}
 use Rattle.queries.specs.declared.Record.{Record}

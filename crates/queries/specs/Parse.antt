@@ -14,7 +14,7 @@ use mathlib.Core.Bool.{Bool, false, _||_}
 use mathlib.Core.List.{List}
 use lib.ListN.{getD}
 use Rattle.cells.specs.Bytes.{word}
-use Rattle.meaning.specs.Attempt.{Attempt, fails, gives, attempt}
+use Rattle.laws.specs.Attempt.{Attempt, fails, gives, attempt}
 use Rattle.meaning.specs.Query.{Query, QL, QE, QR, QV, QS, QT, QF, QI, QO, QC, QD, QX, Record, literal, empty, root}
 use Rattle.meaning.specs.Query.{variable, sequence, letting, for, choice, function, counting, values, step, recordOf}
 use Rattle.meaning.specs.Query.{free}

@@ -5,7 +5,6 @@
 --     Accepted bs r       the bytes parse to r's tree, which is closed and has r's records, at most 128
 --     More a b            what a gives, b gives
 --     Spans rd next o q e     the operands o of a tree q, read by rd from next on, end at e; q's free variables by theirs
---     Bytes bs            every number of bs is below 256
 --     PlainCell z         z is the cell of an integer or of a boolean
 --     NameFits t          the name of a test fits two bytes
 --     Written r           a record's literal is an integer or a boolean, and its name fits two bytes
@@ -18,15 +17,14 @@ use mathlib.Core.List.{List, []}
 use lib.Dec.{eqb}
 use lib.IntN.{ℤ}
 use lib.ListN.{length}
-use Rattle.cells.specs.Bytes.{byteAt}
 use Rattle.cells.specs.Cell.{falseCell, trueCell, inRange}
 use Rattle.cells.specs.declared.Test.{Test}
 use Rattle.cells.specs.declared.Test.the-variants.{AnyNode, Element, Text, Named}
-use Rattle.meaning.specs.Attempt.{Attempt, gives}
+use Rattle.laws.specs.Attempt.{Attempt, gives}
 use Rattle.meaning.specs.Query.{Query, QL, QE, QR, QV, QS, QT, QF, QI, QO, QC, QD, QX, Record, literal, empty, root}
 use Rattle.meaning.specs.Query.{variable, sequence, letting, for, choice}
 use Rattle.meaning.specs.Query.{function, counting, values, step, Read, free}
-use Rattle.meaning.proofs.Closed.{Closed, records}
+use Rattle.theorems.proofs.Closed.{Closed, records}
 use Rattle.queries.specs.declared.Operands.{Operands}
 use Rattle.queries.specs.declared.Operands.the-variants.{None, Variable, One, Two, Binding, Three}
 use Rattle.queries.specs.Parse.{Parsed, parse}
@@ -77,9 +75,6 @@ Spans rd next Three q e =
     (w : Query × ℕ) × (x : Query × ℕ) × (y : Query × ℕ) ×
     (rd next ≡ gives w) × (rd (w .1) ≡ gives x) × (rd (x .1) ≡ gives y) × (y .1 ≡ e) ×
     ((v : ℕ) → free v q ≡ free v (w .0) || free v (x .0) || free v (y .0))
-
-abbrev pub Bytes : List ℕ → Type 0
-Bytes bs = (i : ℕ) → byteAt bs i < 256
 
 abbrev pub PlainCell : ℤ → Type 0
 PlainCell z = (inRange z ≡ true) ⊎ ((z ≡ falseCell) ⊎ (z ≡ trueCell))

@@ -13,7 +13,7 @@ use mathlib.Core.Bool.{Bool, true, false}
 use mathlib.Core.List.{List, [], _∷_}
 use lib.Dec.{ltb}
 use lib.ListN.{length, getD, set}
-use Rattle.meaning.specs.Attempt.{Reading, refuses, reads, reading, unless}
+use Rattle.laws.specs.Attempt.{Reading, refuses, reads, reading, unless}
 use Rattle.meaning.specs.Calls.{Answer, refused}
 use Rattle.meaning.specs.Query.{Read, recordAt, bound}
 use Rattle.queries.specs.declared.Operands.{Operands}

@@ -11,7 +11,7 @@ ghost use lib.Dec.{eqb};
 ghost use lib.ListN.{getD, set};
 ghost use mathlib.Core.Bool.{true, false, _||_};
 ghost use Rattle.cells.specs.Bytes.{word};
-ghost use Rattle.meaning.specs.Attempt.{gives, provided, reads, unless};
+ghost use Rattle.laws.specs.Attempt.{gives, provided, reads, unless};
 ghost use Rattle.meaning.specs.Query;
 ghost use Rattle.meaning.specs.Calls.{queryCall};
 ghost use Rattle.queries.specs.Decoded.{axisField, testField, numberField, recordOf, Means, operandsOf, walked};

@@ -22,11 +22,12 @@ use lib.ListN.{length, getD, set, length-append}
 use lib.Seq.{getD-set-same, getD-set-other, set-out}
 use Rattle.laws.specs.Lists.{filter, below}
 use Rattle.laws.proofs.Lists.{All, all-map, all-below, all-kept}
-use Rattle.laws.proofs.Filters.{by-cases, filter-append, filter-same}
+use Rattle.laws.proofs.Filters.{filter-append, filter-same}
+use Rattle.laws.proofs.Booleans.{by-cases}
 use Rattle.meaning.specs.Plan.{Op, RJ, RP}
 use Rattle.meaning.specs.Query.{Query, free}
 use Rattle.meaning.specs.Translation.{Tables, hold, lifts, lifted, freeIn, othersIn}
-use Rattle.meaning.proofs.PlanBound.{length-filter, length-lifts}
+use Rattle.theorems.proofs.PlanBound.{length-filter, length-lifts}
 use Rattle.rules.specs.declared.Pen.{Pen}
 use Rattle.rules.specs.declared.Lifted.{Lifted}
 use Rattle.rules.specs.Ruled.{Room, Wrote, tablesOf, Holds, flagged, Lifts}

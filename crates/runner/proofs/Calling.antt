@@ -12,14 +12,15 @@ use denote.Enum.Declared.{tagOf}
 use types.Run.{OneOf, miss}
 use lib.IntN.{ℤ, pos}
 use lib.ListN.{length, take}
-use Rattle.meaning.specs.Attempt.{Reading, refuses, reads, reading}
+use Rattle.laws.specs.Attempt.{Reading, refuses, reads, reading}
 use Rattle.meaning.specs.Calls as Calls
-use Rattle.meaning.specs.Calls.{Outcome, padded, refusal, runOutcome, runCall, room}
+use Rattle.meaning.specs.Calls.{Outcome, refusal, runOutcome, runCall, room}
+use Rattle.laws.specs.Rows.{padded}
 use Rattle.meaning.specs.Catalogue.{Catalogue, catalogueOf, catalogueRead}
 use Rattle.meaning.specs.Plan.{Placed, planRead}
 use Rattle.meaning.specs.Run.{running}
 use Rattle.meaning.specs.World.{worldOf}
-use Rattle.meaning.proofs.Outcomes.{refuses-reads}
+use Rattle.laws.proofs.Outcomes.{refuses-reads}
 use Rattle.catalogue.specs.declared.Checked.{Checked as Catalogued}
 use Rattle.catalogue.specs.declared.Checked.the-variants as Catalogued
 use Rattle.catalogue.specs.Answers as Answers

@@ -16,13 +16,13 @@ use lib.IntN.{ℤ}
 use lib.ListN.{length, getD}
 use Rattle.laws.specs.Lists.{gather}
 use Rattle.laws.proofs.Rows.{length-rowsAt}
-use Rattle.meaning.specs.Attempt.{Attempt, fails, gives, reads, Work, full, failed, done, trying, within}
+use Rattle.laws.specs.Attempt.{Attempt, fails, gives, reads, Work, full, failed, done, trying, within}
 use Rattle.meaning.specs.Calls.{lastTable}
 use Rattle.meaning.specs.Operators.{Table, make}
 use Rattle.meaning.specs.Plan.{Placed, planRead}
 use Rattle.meaning.specs.Run.{Filled, running, cells}
 use Rattle.meaning.specs.World.{World}
-use Rattle.meaning.proofs.Outcomes.{reads-same}
+use Rattle.laws.proofs.Outcomes.{reads-same}
 use Rattle.tables.specs.declared.Stand.{Stand}
 use Rattle.tables.specs.Layout.{tableAt}
 use Rattle.plans.specs.declared.Decoded.{Decoded}

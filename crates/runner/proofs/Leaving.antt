@@ -15,9 +15,10 @@ use denote.Enum.Declared.{tagOf}
 use types.Run.{OneOf, miss}
 use lib.IntN.{ℤ, pos}
 use lib.ListN.{length, replicate}
-use Rattle.meaning.specs.Attempt.{Attempt, fails, gives, reads, Work, full}
+use Rattle.laws.specs.Attempt.{Attempt, fails, gives, reads, Work, full}
 use Rattle.meaning.specs.Calls as Calls
-use Rattle.meaning.specs.Calls.{Outcome, padded, refusal, runOutcome}
+use Rattle.meaning.specs.Calls.{Outcome, refusal, runOutcome}
+use Rattle.laws.specs.Rows.{padded}
 use Rattle.meaning.specs.Operators.{Table, make}
 use Rattle.meaning.specs.Plan.{Placed, operatorAt, planRead}
 use Rattle.meaning.specs.Run.{Filled, running}
@@ -30,7 +31,7 @@ use Rattle.plans.specs.declared.Reading.{Reading as Read}
 use Rattle.plans.specs.declared.Reading.the-variants as Read
 use Rattle.plans.specs.Accepted.{Turn}
 use Rattle.plans.specs.Decoded.{operatorOf, Means}
-use Rattle.plans.specs.Walk.{Bytes}
+use Rattle.cells.specs.Bytes.{Bytes}
 use Rattle.plans.proofs.Callers.{ahead-unread, ahead-turn}
 use Rattle.directory.specs.Directory.{standAt, entered, tablesIn, EndToEnd}
 use Rattle.directory.specs.Sound.{madeWidth, Sound}

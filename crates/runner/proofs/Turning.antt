@@ -9,7 +9,7 @@ use mathlib.Core.List.{List, [], _∷_}
 use denote.Enum.Declared.{tagOf}
 use types.Run.{OneOf, miss}
 use lib.IntN.{ℤ}
-use Rattle.meaning.specs.Attempt.{Attempt}
+use Rattle.laws.specs.Attempt.{Attempt}
 use Rattle.meaning.specs.Operators.{Table}
 use Rattle.tables.specs.declared.Laid.{Laid}
 use Rattle.tables.specs.declared.Laid.the-variants as Laid

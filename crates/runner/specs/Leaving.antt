@@ -10,8 +10,9 @@ use mathlib.Core.Path.{_≡_}
 use mathlib.Core.List.{List, []}
 use lib.IntN.{ℤ, pos}
 use lib.ListN.{length, take}
-use Rattle.meaning.specs.Attempt.{Attempt, Reading, refuses, reads}
-use Rattle.meaning.specs.Calls.{Outcome, padded, runOutcome}
+use Rattle.laws.specs.Attempt.{Attempt, Reading, refuses, reads}
+use Rattle.meaning.specs.Calls.{Outcome, runOutcome}
+use Rattle.laws.specs.Rows.{padded}
 use Rattle.meaning.specs.Catalogue.{catalogueOf}
 use Rattle.meaning.specs.Plan.{Placed, planRead}
 use Rattle.meaning.specs.Run.{running}

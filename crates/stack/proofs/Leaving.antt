@@ -23,7 +23,7 @@ use lib.ListN.{length, take, drop, set}
 use lib.Seq.{take-add, drop-drop}
 use Rattle.laws.specs.Rows.{row, laid}
 use Rattle.laws.proofs.Rows.{take-laid, set-laid}
-use Rattle.meaning.specs.Attempt.{Attempt, fails, gives, trying, Work, full, failed, work, within}
+use Rattle.laws.specs.Attempt.{Attempt, fails, gives, trying, Work, full, failed, work, within}
 use Rattle.meaning.specs.Counted.{Standing, stand, adding}
 use Rattle.stack.specs.declared.Stood.{Stood}
 use Rattle.stack.specs.declared.Stood.the-variants as Stood

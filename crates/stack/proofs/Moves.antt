@@ -28,9 +28,8 @@ use lib.ListN.{
   drop-of-length-le,
 }
 use lib.Seq.{drop-at, take-append-seam, length-take-le, getD-drop, take-take, take-nil, drop-nil}
-use Rattle.laws.specs.Rows.{row, laid}
+use Rattle.laws.specs.Rows.{row, laid, padded}
 use Rattle.laws.proofs.Rows.{getD-laid, length-row, row-suc, set-more}
-use Rattle.meaning.specs.Calls.{padded}
 
 module _ {A : Type 0} where
   -- a row is the end of the members up to its own end

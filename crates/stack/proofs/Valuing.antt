@@ -11,10 +11,10 @@ use lib.IntN.{ℤ}
 use lib.ListN.{length, drop, getD, drop-of-length-le}
 use lib.Seq.{drop-cons}
 use Rattle.laws.proofs.Rows.{length-snoc}
-use Rattle.meaning.specs.Attempt.{Attempt, fails, gives, attempt, each}
+use Rattle.laws.specs.Attempt.{Attempt, fails, gives, attempt, each}
 use Rattle.meaning.specs.World.{World}
 use Rattle.meaning.specs.Meaning.{values}
-use Rattle.meaning.proofs.Outcomes.{attempt-gives}
+use Rattle.laws.proofs.Outcomes.{attempt-gives}
 
 unfoldable pub behind : List ℤ → Attempt (List ℤ) → Attempt (List ℤ)
 behind vs a = attempt a (λ zs. gives (vs ++ zs))

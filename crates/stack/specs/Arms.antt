@@ -22,7 +22,7 @@ use Rattle.cells.specs.Cell.{nodeCell}
 use Rattle.cells.specs.declared.Axis.{Axis}
 use Rattle.cells.specs.declared.Function.{Function}
 use Rattle.cells.specs.declared.Test.{Test}
-use Rattle.meaning.specs.Attempt.{fails, gives, Work, done, work, trying}
+use Rattle.laws.specs.Attempt.{fails, gives, Work, done, work, trying}
 use Rattle.meaning.specs.Catalogue.{catalogueOf}
 use Rattle.meaning.specs.World.{World, step}
 use Rattle.meaning.specs.Meaning.{apply, values}

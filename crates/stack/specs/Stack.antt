@@ -21,7 +21,7 @@ use mathlib.Core.List.{List}
 use lib.IntN.{ℤ}
 use lib.ListN.{length, take}
 use Rattle.laws.specs.Rows.{row}
-use Rattle.meaning.specs.Attempt.{Work, full, failed, done}
+use Rattle.laws.specs.Attempt.{Work, full, failed, done}
 use Rattle.meaning.specs.Counted.{Standing, stand}
 use Rattle.stack.specs.declared.Stood.{Stood}
 use Rattle.stack.specs.declared.Stood.the-variants as Stood

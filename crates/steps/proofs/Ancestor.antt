@@ -16,7 +16,7 @@ use lib.ListN.{getD}
 use borrow.Author.Tests.{leb-true, le-leb}
 use Rattle.cells.specs.declared.Axis.the-variants.{Ancestor}
 use Rattle.laws.specs.Lists.{any}
-use Rattle.laws.proofs.Filters.{clash}
+use Rattle.laws.proofs.Booleans.{clash}
 use Rattle.meaning.specs.Catalogue.{Catalogue}
 use Rattle.meaning.specs.World.{axisHolds, onAxis}
 use Rattle.catalogue.specs.Nested.{Nested}

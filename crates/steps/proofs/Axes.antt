@@ -12,7 +12,7 @@ use borrow.Author.Tests.{eqb-true, eq-eqb, ltb-true, lt-ltb, leb-true, le-leb}
 use Rattle.cells.specs.declared.Axis.{Axis}
 use Rattle.meaning.specs.Catalogue.{Catalogue}
 use Rattle.meaning.specs.World.{fragment, isDescendant, isChild, axisHolds, onAxis}
-use Rattle.catalogue.proofs.Rows.{both}
+use Rattle.laws.proofs.Booleans.{both-true}
 use Rattle.steps.proofs.Tests.{both-and}
 
 module _ (c : Catalogue) where
@@ -23,7 +23,7 @@ module _ (c : Catalogue) where
 
     parts : onAxis c axis x v ≡ true → (eqb (fragment c x) (fragment c v) ≡ true) × (axisHolds c axis x v ≡ true)
     unfolding onAxis
-    parts h = both (eqb (fragment c x) (fragment c v)) (axisHolds c axis x v) h
+    parts h = both-true (eqb (fragment c x) (fragment c v)) (axisHolds c axis x v) h
 
     pub axis-of : onAxis c axis x v ≡ true → axisHolds c axis x v ≡ true
     axis-of h = parts h .1
@@ -38,7 +38,7 @@ module _ (c : Catalogue) where
   pub descendant-of : (x v : ℕ) → isDescendant c x v ≡ true → (x < v) × (v ≤ x + c .size x)
   unfolding isDescendant
   descendant-of x v h =
-      let w = both (ltb x v) (leb v (x + c .size x)) h in
+      let w = both-true (ltb x v) (leb v (x + c .size x)) h in
       (ltb-true x v (w .0), leb-true v (x + c .size x) (w .1))
 
   pub child : (x v : ℕ) → x < v → v ≤ x + c .size x → c .level v ≡ c .level x + 1 → isChild c x v ≡ true
@@ -48,6 +48,6 @@ module _ (c : Catalogue) where
   pub child-of : (x v : ℕ) → isChild c x v ≡ true → (x < v) × (v ≤ x + c .size x) × (c .level v ≡ c .level x + 1)
   unfolding isChild
   child-of x v h =
-      let w = both (isDescendant c x v) (eqb (c .level v) (c .level x + 1)) h in
+      let w = both-true (isDescendant c x v) (eqb (c .level v) (c .level x + 1)) h in
       let d = descendant-of x v (w .0) in
       (d .0, d .1, eqb-true (c .level v) (c .level x + 1) (w .1))

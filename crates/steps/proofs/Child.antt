@@ -15,7 +15,7 @@ use lib.ListN.{length, getD, set, replicate, length-set}
 use lib.Seq.{getD-set-same, getD-set-other}
 use Rattle.cells.specs.declared.Axis.the-variants.{Child}
 use Rattle.laws.specs.Lists.{any}
-use Rattle.laws.proofs.Filters.{clash}
+use Rattle.laws.proofs.Booleans.{clash}
 use Rattle.meaning.specs.Catalogue.{Catalogue}
 use Rattle.meaning.specs.World.{axisHolds, onAxis}
 use Rattle.catalogue.specs.Nested.{Nested}

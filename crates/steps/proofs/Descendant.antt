@@ -17,7 +17,7 @@ use lib.ListN.{getD}
 use borrow.Author.Tests.{eqb-true, eq-eqb, ltb-true, lt-ltb, leb-true, leb-false}
 use Rattle.cells.specs.declared.Axis.the-variants.{Descendant, DescendantOrSelf}
 use Rattle.laws.specs.Lists.{any}
-use Rattle.laws.proofs.Filters.{clash}
+use Rattle.laws.proofs.Booleans.{clash}
 use Rattle.meaning.specs.Catalogue.{Catalogue}
 use Rattle.meaning.specs.World.{isDescendant, axisHolds, onAxis}
 use Rattle.catalogue.specs.Nested.{Nested}

@@ -14,7 +14,8 @@ use native.Mathlib.Omega.{arith}
 use mir.Val.{boolByte}
 use lib.ListN.{length, getD, length-append}
 use Rattle.laws.specs.Lists.{filter, any, below}
-use Rattle.laws.proofs.Filters.{clash, filter-append, filter-same}
+use Rattle.laws.proofs.Filters.{filter-append, filter-same}
+use Rattle.laws.proofs.Booleans.{clash}
 use Rattle.laws.proofs.Lists.{all-map, all-below}
 use Rattle.steps.specs.Marks.{ranks}
 

@@ -27,8 +27,8 @@ use Rattle.cells.specs.declared.Item.the-variants.{Integer, Truth, Node}
 use Rattle.cells.specs.declared.Held.{Held}
 use Rattle.cells.specs.declared.Held.the-variants as Held
 use Rattle.laws.specs.Lists.{any}
-use Rattle.laws.proofs.Filters.{clash}
-use Rattle.meaning.specs.Attempt.{Attempt, fails, gives, attempt, provided}
+use Rattle.laws.proofs.Booleans.{clash}
+use Rattle.laws.specs.Attempt.{Attempt, fails, gives, attempt, provided}
 use Rattle.meaning.specs.Catalogue.{Catalogue}
 use Rattle.meaning.specs.World.{rankIn, rankOf, ranksOf}
 use Rattle.steps.specs.declared.Marked.{Marked}

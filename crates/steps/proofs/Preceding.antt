@@ -17,7 +17,7 @@ use lib.ListN.{getD}
 use borrow.Author.Tests.{eqb-true, eqb-false, ltb-true, lt-ltb}
 use Rattle.cells.specs.declared.Axis.the-variants.{Preceding}
 use Rattle.laws.specs.Lists.{any}
-use Rattle.laws.proofs.Filters.{clash}
+use Rattle.laws.proofs.Booleans.{clash}
 use Rattle.meaning.specs.Catalogue.{Catalogue}
 use Rattle.meaning.specs.World.{axisHolds, onAxis}
 use Rattle.steps.specs.Marks.{ranks}

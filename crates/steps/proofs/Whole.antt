@@ -15,7 +15,7 @@ use Rattle.cells.specs.Cell.{nodeCell}
 use Rattle.cells.specs.declared.Axis.{Axis}
 use Rattle.cells.specs.declared.Test.{Test}
 use Rattle.laws.specs.Lists.{any}
-use Rattle.meaning.specs.Attempt.{fails, gives, attempt}
+use Rattle.laws.specs.Attempt.{fails, gives, attempt}
 use Rattle.meaning.specs.Catalogue.{Catalogue, catalogueOf}
 use Rattle.meaning.specs.World.{onAxis, passes, reached, step}
 use Rattle.catalogue.specs.Nested.{Nested}

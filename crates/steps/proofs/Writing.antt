@@ -16,9 +16,8 @@ use lib.IntN.{ℤ}
 use lib.ListN.{length, getD, set, length-map, length-append}
 use Rattle.cells.specs.Cell.{nodeCell}
 use Rattle.laws.specs.Lists.{gather}
-use Rattle.laws.specs.Rows.{laid}
+use Rattle.laws.specs.Rows.{laid, flat}
 use Rattle.laws.proofs.Rows.{laid-nothing, set-more, length-snoc}
-use Rattle.meaning.specs.Calls.{flat}
 use Rattle.steps.specs.Marks.{ranks}
 use Rattle.steps.specs.Nodes.{rowsOf}
 use Rattle.steps.proofs.Lists.{ranks-none, ranks-more, length-ranks-rises}

@@ -14,8 +14,8 @@ use lib.IntN.{ℤ}
 use lib.ListN.{getD, set}
 use Rattle.cells.specs.Cell.{nodeCell}
 use Rattle.laws.specs.Lists.{any}
-use Rattle.meaning.specs.Attempt.{Attempt, fails, gives}
-use Rattle.meaning.specs.Calls.{flat}
+use Rattle.laws.specs.Attempt.{Attempt, fails, gives}
+use Rattle.laws.specs.Rows.{flat}
 use Rattle.meaning.specs.Catalogue.{Catalogue}
 use Rattle.meaning.specs.World.{rankOf, ranksOf}
 use Rattle.steps.specs.declared.Ranked.{Ranked}

@@ -15,6 +15,7 @@ use Rattle.cells.proofs.Cells.{before-trans, before-other}
 use Rattle.laws.specs.Lists.{any}
 use Rattle.laws.specs.Rows.{rowsAt}
 use Rattle.laws.proofs.Lists.{All, all-map}
+use Rattle.laws.proofs.Booleans.{both-true}
 use Rattle.meaning.specs.Operators.{Table, cell, column, once}
 use Rattle.tables.specs.Order.{rises}
 use Rattle.tables.proofs.Columns.{cell-read}
@@ -104,11 +105,6 @@ module _ (xs : List ℤ) (a n w c : ℕ) (inside : c < w) where
           ∙ ap (getD xs (a + c) (pos 0) ∷_) (column-none xs (a + w) (n - 1) w c inside (omega arith)))
 
 -- a column that rises holds no cell twice
-both-true : (s t : Bool) → (s && t) ≡ true → (s ≡ true) × (t ≡ true)
-both-true true true e = (refl, refl)
-both-true true false e = absurd (false≢true e)
-both-true false t e = absurd (false≢true e)
-
 all-after : (x : ℤ) (xs : List ℤ) → rises (x ∷ xs) ≡ true → All (λ y. before x y ≡ true) xs
 unfolding rises
 all-after x [] e = tt

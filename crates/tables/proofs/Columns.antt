@@ -17,7 +17,7 @@ use Rattle.laws.specs.Lists.{all}
 use Rattle.laws.specs.Rows.{row, laid}
 use Rattle.laws.proofs.Rows.{length-row, getD-row, row-suc, getD-laid, set-more}
 use Rattle.cells.specs.Cell.{same, trueCell}
-use Rattle.meaning.specs.Attempt.{gives}
+use Rattle.laws.specs.Attempt.{gives}
 use Rattle.meaning.specs.Operators.{Row, cell}
 use Rattle.meaning.specs.Plan.{columnsAt, columns}
 use Rattle.tables.specs.declared.Laid.the-variants.{Rows, Full}

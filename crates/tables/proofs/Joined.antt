@@ -14,7 +14,7 @@ use Rattle.cells.specs.Cell.{same}
 use Rattle.laws.specs.Lists.{filter}
 use Rattle.laws.specs.Rows.{row, laid}
 use Rattle.laws.proofs.Rows.{length-row, row-laid, laid-more}
-use Rattle.meaning.specs.Attempt.{Attempt, gives, attempt, each}
+use Rattle.laws.specs.Attempt.{Attempt, gives, attempt, each}
 use Rattle.meaning.specs.Operators.{Row, Table, cell}
 use Rattle.tables.specs.declared.Laid.the-variants.{Rows, Full}
 use Rattle.tables.specs.Layout.{Owes}

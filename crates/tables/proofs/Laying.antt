@@ -17,11 +17,10 @@ use denote.Enum.Declared.{tagOf}
 use types.Run.{OneOf, miss}
 use lib.ListN.{length, length-append}
 use Rattle.laws.specs.Lists.{gather}
-use Rattle.laws.specs.Rows.{row, rowsAt, laid}
+use Rattle.laws.specs.Rows.{row, rowsAt, laid, flat}
 use Rattle.laws.proofs.Rows.{laid-nothing, laid-more, length-laid}
-use Rattle.meaning.specs.Attempt.{Attempt, fails, gives, attempt, each}
+use Rattle.laws.specs.Attempt.{Attempt, fails, gives, attempt, each}
 use Rattle.meaning.specs.Operators.{Row, Table}
-use Rattle.meaning.specs.Calls.{flat}
 use Rattle.tables.specs.declared.Laid.{Laid}
 use Rattle.tables.specs.declared.Laid.the-variants.{Rows, Full, Fails}
 use Rattle.tables.specs.Layout.{Wide, Owes}

@@ -11,7 +11,7 @@ use lib.IntN.{ℤ, pos}
 use Rattle.cells.specs.Cell.{same, trueCell}
 use Rattle.cells.specs.declared.Function.{Function}
 use Rattle.laws.specs.Lists.{filter, any, gather}
-use Rattle.meaning.specs.Attempt.{Attempt, fails, gives, attempt, provided, each}
+use Rattle.laws.specs.Attempt.{Attempt, fails, gives, attempt, provided, each}
 use Rattle.meaning.specs.Catalogue.{Catalogue}
 use Rattle.meaning.specs.Operators.{Row, Table, cell, sameRow, attach, project, minus, select, join, added, rooted, column, once, tableOf, make}
 use Rattle.meaning.specs.Plan.{columnsAt, RT, RA, RP, RU, RD, RS, RJ, RF, RV, RK, RO}

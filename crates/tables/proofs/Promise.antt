@@ -15,11 +15,10 @@ use native.Mathlib.Nat.{suc-mul, zero-mul}
 use lib.IntN.{ℤ}
 use lib.ListN.{length, length-append, set}
 use Rattle.laws.specs.Lists.{gather}
-use Rattle.laws.specs.Rows.{row, laid}
+use Rattle.laws.specs.Rows.{row, laid, flat}
 use Rattle.laws.proofs.Rows.{laid-nothing, length-row, length-snoc, set-more}
-use Rattle.meaning.specs.Attempt.{Attempt, fails, gives, attempt, provided}
+use Rattle.laws.specs.Attempt.{Attempt, fails, gives, attempt, provided}
 use Rattle.meaning.specs.Operators.{Row, Table}
-use Rattle.meaning.specs.Calls.{flat}
 use Rattle.tables.specs.declared.Laid.{Laid}
 use Rattle.tables.specs.declared.Laid.the-variants.{Rows, Full, Fails}
 use Rattle.tables.specs.Layout.{Wide, Owes}

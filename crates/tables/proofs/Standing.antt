@@ -17,11 +17,10 @@ use lib.IntN.{ℤ}
 use lib.ListN.{length, take, drop, length-append}
 use lib.Seq.{take-add, drop-drop, take-at, drop-at, length-take-le}
 use Rattle.laws.specs.Lists.{gather}
-use Rattle.laws.specs.Rows.{row, rowsAt, laid}
+use Rattle.laws.specs.Rows.{row, rowsAt, laid, flat}
 use Rattle.laws.proofs.Rows.{length-row, length-rowsAt, length-laid, rowsAt-laid}
-use Rattle.meaning.specs.Attempt.{Attempt, gives, attempt, each}
+use Rattle.laws.specs.Attempt.{Attempt, gives, attempt, each}
 use Rattle.meaning.specs.Operators.{Table}
-use Rattle.meaning.specs.Calls.{flat}
 use Rattle.tables.specs.declared.Stand.{Stand}
 use Rattle.tables.specs.declared.Laid.{Laid}
 use Rattle.tables.specs.declared.Laid.the-variants.{Rows, Full}

@@ -19,7 +19,7 @@ use Rattle.cells.specs.Cell.{same}
 use Rattle.laws.specs.Lists.{filter, any, all}
 use Rattle.laws.specs.Rows.{row, laid}
 use Rattle.laws.proofs.Rows.{row-laid, rowsAt-laid}
-use Rattle.meaning.specs.Attempt.{Attempt, fails, gives, attempt, each}
+use Rattle.laws.specs.Attempt.{Attempt, fails, gives, attempt, each}
 use Rattle.meaning.specs.Catalogue.{Catalogue}
 use Rattle.meaning.specs.Operators.{Row, Table, cell, sameRow}
 use Rattle.meaning.specs.World.{arith as function, value}

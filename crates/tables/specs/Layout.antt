@@ -9,10 +9,9 @@ use mathlib.Core.Path.{_≡_}
 use mathlib.Core.List.{List, [], _∷_}
 use lib.IntN.{ℤ}
 use lib.ListN.{length}
-use Rattle.laws.specs.Rows.{rowsAt, laid}
-use Rattle.meaning.specs.Attempt.{Attempt, fails, gives}
+use Rattle.laws.specs.Rows.{rowsAt, laid, flat}
+use Rattle.laws.specs.Attempt.{Attempt, fails, gives}
 use Rattle.meaning.specs.Operators.{Table}
-use Rattle.meaning.specs.Calls.{flat}
 use Rattle.tables.specs.declared.Stand.{Stand}
 use Rattle.tables.specs.declared.Laid.{Laid}
 use Rattle.tables.specs.declared.Laid.the-variants.{Rows, Full, Fails}

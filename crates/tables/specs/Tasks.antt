@@ -15,7 +15,7 @@ use lib.IntN.{ℤ}
 use lib.ListN.{length}
 use Rattle.cells.specs.Cell.{same, trueCell}
 use Rattle.laws.specs.Lists.{filter, any}
-use Rattle.meaning.specs.Attempt.{Attempt, fails, gives, attempt}
+use Rattle.laws.specs.Attempt.{Attempt, fails, gives, attempt}
 use Rattle.meaning.specs.Catalogue.{Catalogue}
 use Rattle.meaning.specs.World.{arith, value}
 use Rattle.meaning.specs.Plan.{columnsAt, columns}

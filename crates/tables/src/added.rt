@@ -4,7 +4,7 @@ ghost use mathlib.Core.List.{[], _∷_, _++_};
 ghost use Prim.Native.Nat.{_+_, _*_, _≤_, _<_};
 ghost use lib.ListN.{length};
 ghost use Rattle.laws.specs.Rows.{row};
-ghost use Rattle.meaning.specs.Attempt.{gives, attempt};
+ghost use Rattle.laws.specs.Attempt.{gives, attempt};
 ghost use Rattle.meaning.specs.Catalogue.{catalogueOf};
 ghost use Rattle.meaning.specs.Operators.{cell};
 ghost use Rattle.meaning.specs.World;

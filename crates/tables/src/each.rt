@@ -4,7 +4,7 @@ ghost use Prim.Native.Nat.{_+_, _*_, _≤_, _<_};
 ghost use lib.ListN.{length};
 ghost use Rattle.laws.specs.Lists.{all};
 ghost use Rattle.laws.specs.Rows.{row};
-ghost use Rattle.meaning.specs.Attempt.{each};
+ghost use Rattle.laws.specs.Attempt.{each};
 ghost use Rattle.meaning.specs.Catalogue.{catalogueOf};
 ghost use Rattle.tables.specs.Layout.{tableAt, Inside, Owes};
 ghost use Rattle.items.specs.Answers.{tried};

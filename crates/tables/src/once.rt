@@ -5,7 +5,7 @@ ghost use lib.ListN.{length};
 ghost use Rattle.cells.specs.Cell.{same};
 ghost use Rattle.laws.specs.Lists.{any};
 ghost use Rattle.laws.specs.Rows.{rowsAt};
-ghost use Rattle.meaning.specs.Attempt.{gives, provided};
+ghost use Rattle.laws.specs.Attempt.{gives, provided};
 ghost use Rattle.meaning.specs.Operators;
 ghost use Rattle.tables.specs.Layout.{tableAt, Inside, Owes};
 ghost use Rattle.tables.specs.Order;

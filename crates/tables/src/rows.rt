@@ -6,7 +6,7 @@ ghost use Prim.Native.Nat.{_+_, _≤_, _<_};
 ghost use lib.ListN.{length};
 ghost use Rattle.cells.specs.Cell.{same, trueCell};
 ghost use Rattle.laws.specs.Rows.{row, laid};
-ghost use Rattle.meaning.specs.Attempt.{gives};
+ghost use Rattle.laws.specs.Attempt.{gives};
 ghost use Rattle.meaning.specs.Operators.{cell};
 ghost use Rattle.meaning.specs.Plan.{columnsAt, columns};
 ghost use Rattle.tables.specs.Layout.{Owes};

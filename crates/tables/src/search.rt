@@ -6,7 +6,7 @@ ghost use Prim.Native.Nat.{_+_, _≤_};
 ghost use lib.ListN.{length};
 ghost use Rattle.laws.specs.Lists.{any};
 ghost use Rattle.laws.specs.Rows.{row};
-ghost use Rattle.meaning.specs.Attempt.{gives};
+ghost use Rattle.laws.specs.Attempt.{gives};
 ghost use Rattle.meaning.specs.Operators.{sameRow};
 ghost use Rattle.tables.specs.Layout.{tableAt, Inside, Owes};
 use crate::Laid;

@@ -18,14 +18,15 @@ use native.Mathlib.Omega.{arith}
 use borrow.Author.Tests.{le-leb, lt-leb}
 use lib.Dec.{leb}
 use lib.ListN.{length, take, replicate, length-replicate, getD-replicate}
-use Rattle.meaning.specs.Attempt.{gives, refuses, reads, reading, unless}
+use Rattle.laws.specs.Attempt.{gives, refuses, reads, reading, unless}
 use Rattle.meaning.specs.Plan.{Op, RT}
 use Rattle.meaning.specs.Query.{Query, QL, QE, QR, QV, QS, QT, QF, QI, QO, QC, QD, QX, Read, queryRead}
 use Rattle.meaning.specs.Translation.{Tables, next, tr, tailLast, plan}
 use Rattle.meaning.specs.Written.{written}
-use Rattle.meaning.specs.Calls.{Answer, Outcome, padded, refusal, refused, planOf, translateOutcome, translateCall}
-use Rattle.meaning.proofs.Closed as Closed
-use Rattle.meaning.proofs.Closed.{records}
+use Rattle.meaning.specs.Calls.{Answer, Outcome, refusal, refused, planOf, translateOutcome, translateCall}
+use Rattle.laws.specs.Rows.{padded}
+use Rattle.theorems.proofs.Closed as Closed
+use Rattle.theorems.proofs.Closed.{records}
 use Rattle.queries.specs.declared.Checked.{Checked}
 use Rattle.queries.specs.declared.Checked.the-variants as Checked
 use Rattle.queries.specs.Decoded as Queries

@@ -15,7 +15,7 @@ use lib.ListN.{getD}
 use Rattle.cells.specs.Bytes.{word}
 use Rattle.meaning.specs.Query.{Query, QL, QE, QR, QV, recordOf}
 use Rattle.meaning.specs.Translation.{Tables, tr, ruleL, ruleE, ruleR}
-use Rattle.meaning.proofs.Outcomes.{fails-gives}
+use Rattle.laws.proofs.Outcomes.{fails-gives}
 use Rattle.queries.specs.declared.Reading.{Reading as Found}
 use Rattle.queries.specs.declared.Reading.the-variants as Found
 use Rattle.queries.specs.declared.Decoded.{Decoded}

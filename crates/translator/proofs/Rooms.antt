@@ -17,8 +17,8 @@ use lib.ListN.{length, length-append}
 use Rattle.meaning.specs.Plan.{Op}
 use Rattle.meaning.specs.Query.{Query, QI}
 use Rattle.meaning.specs.Translation.{Tables, tr, then, lifts, lifted, freeIn, headF, headI}
-use Rattle.meaning.proofs.Closed.{records}
-use Rattle.meaning.proofs.PlanBound.{tr-bound, length-lifts, length-freeIn}
+use Rattle.theorems.proofs.Closed.{records}
+use Rattle.theorems.proofs.PlanBound.{tr-bound, length-lifts, length-freeIn}
 use Rattle.queries.specs.Parse.{Parsed}
 use Rattle.rules.specs.declared.Pen.{Pen}
 use Rattle.rules.specs.declared.Output.{Output}

@@ -7,11 +7,11 @@ use Prim.Native.Nat.{ℕ, suc, _+_, _*_, _≤_}
 use mathlib.Core.Path.{_≡_, refl, sym, ap, _∙_, subst}
 use mathlib.Core.List.{List}
 use native.Mathlib.Omega.{arith}
-use Rattle.meaning.specs.Attempt.{gives}
+use Rattle.laws.specs.Attempt.{gives}
 use Rattle.meaning.specs.Query.{Query}
 use Rattle.meaning.specs.Translation.{Made, Tables, tr}
-use Rattle.meaning.proofs.Closed.{records}
-use Rattle.meaning.proofs.Outcomes.{gives-same}
+use Rattle.theorems.proofs.Closed.{records}
+use Rattle.laws.proofs.Outcomes.{gives-same}
 use Rattle.queries.specs.Parse.{Parsed, lone, pair, triple}
 use Rattle.queries.proofs.Parsing.{lone-gives, pair-gives, triple-gives}
 use Rattle.rules.specs.declared.Pen.{Pen}

@@ -8,9 +8,9 @@ use mathlib.Core.Path.{_≡_}
 use mathlib.Core.List.{List, [], _∷_}
 use lib.ListN.{length}
 use Rattle.meaning.specs.Query.{Query}
-use Rattle.meaning.specs.Attempt.{gives}
+use Rattle.laws.specs.Attempt.{gives}
 use Rattle.meaning.specs.Calls.{Answer, refused, planOf, translateOutcome}
-use Rattle.meaning.proofs.Closed.{records}
+use Rattle.theorems.proofs.Closed.{records}
 use Rattle.queries.specs.declared.Checked.{Checked}
 use Rattle.queries.specs.Decoded as Queries
 use Rattle.queries.specs.Parse.{parse}

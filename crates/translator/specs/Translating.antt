@@ -11,10 +11,10 @@ use Prim.Native.Nat.{ℕ, _+_, _*_}
 use mathlib.Core.Path.{_≡_}
 use mathlib.Core.List.{List, [], _∷_}
 use lib.ListN.{length}
-use Rattle.meaning.specs.Attempt.{gives}
+use Rattle.laws.specs.Attempt.{gives}
 use Rattle.meaning.specs.Query.{Query}
 use Rattle.meaning.specs.Translation.{Made, Tables, tr, then, lifts, lifted, freeIn}
-use Rattle.meaning.proofs.Closed.{records}
+use Rattle.theorems.proofs.Closed.{records}
 use Rattle.queries.specs.Parse.{Parsed}
 use Rattle.rules.specs.declared.Pen.{Pen}
 use Rattle.rules.specs.declared.Output.{Output}

@@ -27,9 +27,8 @@ use lib.ListN.{
   replicate-append-replicate,
 }
 use lib.Seq.{take-all, take-suc-set, take-append-seam, drop-at, length-take-le}
-use Rattle.laws.specs.Rows.{laid}
+use Rattle.laws.specs.Rows.{laid, padded}
 use Rattle.laws.proofs.Rows.{laid-nothing, laid-more, set-laid}
-use Rattle.meaning.specs.Calls.{padded}
 use Rattle.writing.specs.Penned.{penned}
 
 module _ {A : Type 0} where

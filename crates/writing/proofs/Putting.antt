@@ -14,7 +14,7 @@ use lib.ListN.{length, set, take, length-append}
 use lib.Seq.{set-out}
 use Rattle.cells.specs.Bytes.{bytesOf}
 use Rattle.laws.specs.Lists.{gather}
-use Rattle.meaning.specs.Calls.{padded}
+use Rattle.laws.specs.Rows.{padded}
 use Rattle.meaning.specs.Plan.{Op}
 use Rattle.meaning.specs.Written.{operatorBytes, written}
 use Rattle.writing.specs.Penned.{penned, Pens}

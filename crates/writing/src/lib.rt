@@ -10,7 +10,7 @@ ghost use lib.ListN.{length, take};
 ghost use Rattle.cells.specs.Bytes.{bytesOf, bits8};
 ghost use Rattle.meaning.specs.Plan.{RT, RA, RP, RU, RD, RS, RJ, RN, RF, RV, RC, RE, RK, RX, RO};
 ghost use Rattle.meaning.specs.Written.{operatorBytes, functionNumber, axisNumber, testNumber, testName};
-ghost use Rattle.meaning.specs.Calls.{padded};
+ghost use Rattle.laws.specs.Rows.{padded};
 ghost use Rattle.writing.specs.Penned.{Pens};
 ghost use Rattle.writing.specs.Listed.{columnsOf, keysOf};
 

@@ -6,7 +6,7 @@ use mir.Facts.{toZ-ofZ}
 use Rattle.cells.proofs.Bits.{read-back}
 use Rattle.cells.specs.Cell.{truthCell}
 use Rattle.cells.specs.declared.Function.the-variants.{Add, Subtract, Multiply, Divide, Equal, Less}
-use Rattle.meaning.specs.Attempt.{gives}
+use Rattle.laws.specs.Attempt.{gives}
 use Rattle.meaning.specs.World as World
 use Rattle.items.specs.Answers.{number, tried}
 use Rattle.items.proofs.Cases.{number-ranged, number-quotient, function-is}

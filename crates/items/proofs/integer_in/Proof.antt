@@ -4,7 +4,7 @@ use mir.Facts.{toZ-ofZ}
 use mir.Syntax.{w32}
 use mir.Val.{SFits}
 use Rattle.meaning.specs.World.{integerIn}
-use Rattle.meaning.specs.Attempt.{gives}
+use Rattle.laws.specs.Attempt.{gives}
 use Rattle.items.specs.Answers.{number, holding}
 use borrow.Author.Needs.{needs}
 use Rattle.items.proofs.integer_in.Statement.{statement}

@@ -5,7 +5,7 @@ use native.Mathlib.Omega.{arith}
 use mir.Syntax.{w64}
 use Rattle.cells.proofs.Bits.{read-back}
 use Rattle.catalogue.specs.Answers.{found}
-use Rattle.meaning.specs.Attempt.{gives}
+use Rattle.laws.specs.Attempt.{gives}
 use Rattle.meaning.specs.Catalogue.{catalogueOf}
 use Rattle.items.specs.Answers.{tried}
 use Rattle.items.proofs.Cases.{root-row, root-none, root-is}

@@ -6,7 +6,7 @@ use mir.Syntax.{w32}
 use mir.Val.{SFits}
 use mir.Facts.{toZ-ofZ}
 use Rattle.cells.specs.Cell.{same}
-use Rattle.meaning.specs.Attempt.{gives, provided}
+use Rattle.laws.specs.Attempt.{gives, provided}
 use Rattle.items.specs.Answers.{judged, truthOf}
 use Rattle.items.proofs.Cases.{truth-is}
 use borrow.Author.Needs.{needs}

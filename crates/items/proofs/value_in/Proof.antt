@@ -4,7 +4,7 @@ use mir.Syntax.{w32, w64}
 use mir.Val.{SFits}
 use mir.Facts.{toZ-ofZ}
 use Rattle.cells.proofs.Bits.{read-back}
-use Rattle.meaning.specs.Attempt.{gives}
+use Rattle.laws.specs.Attempt.{gives}
 use Rattle.meaning.specs.World.{valueIn}
 use Rattle.items.specs.Answers.{number, tried, textValue}
 use Rattle.items.proofs.Cases.{value-is}

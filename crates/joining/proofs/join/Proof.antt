@@ -9,7 +9,7 @@ use mir.Syntax.{w64}
 use mir.Val.{toZ, ofZ}
 use mir.Facts.{toZ-ofZ}
 use Rattle.laws.specs.Rows.{row, rowsAt}
-use Rattle.meaning.specs.Attempt.{each}
+use Rattle.laws.specs.Attempt.{each}
 use Rattle.meaning.specs.Operators.{Table, cell, column}
 use Rattle.tables.specs.declared.Laid.the-variants.{Rows}
 use Rattle.tables.specs.Layout.{Owes, Inside, tableAt}

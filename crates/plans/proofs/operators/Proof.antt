@@ -5,7 +5,8 @@ use mathlib.Core.Path.{sym, _∙_}
 use native.Mathlib.Omega.{arith}
 use borrow.Author.Needs.{needs}
 use lib.ListN.{length}
-use Rattle.plans.specs.Walk.{Bytes, Checking}
+use Rattle.plans.specs.Walk.{Checking}
+use Rattle.cells.specs.Bytes.{Bytes}
 use Rattle.plans.proofs.Fields.{operator-ends}
 use Rattle.plans.proofs.Ending.{checking-start, checking-excess, checking-unread, checking-unfit, checking-small}
 use Rattle.plans.proofs.Ending.{checking-room, checking-place}

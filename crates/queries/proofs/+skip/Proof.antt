@@ -5,7 +5,7 @@ use borrow.Author.Needs.{needs}
 use Prim.Native.Nat.{ℕ, _-_, _<_}
 use borrow.Fn.Kinds.{In}
 use borrow.Fn.PlainCycle.{Measures, is, falls, and}
-use Rattle.meaning.specs.Attempt.{gives}
+use Rattle.laws.specs.Attempt.{gives}
 use Rattle.meaning.specs.Query.{Query}
 use Rattle.queries.specs.declared.Operands.{Operands}
 use Rattle.queries.specs.declared.Operands.the-variants.{None, Variable, One, Two, Binding, Three}

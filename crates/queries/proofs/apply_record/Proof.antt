@@ -7,7 +7,7 @@ use Rattle.cells.specs.Bytes.{byteAt, fits}
 use Prim.Native.Nat.{_+_, _≤_}
 use lib.ListN.{length}
 use Rattle.cells.specs.declared.Function.the-variants as Function
-use Rattle.meaning.specs.Attempt.{attempt}
+use Rattle.laws.specs.Attempt.{attempt}
 use Rattle.meaning.specs.Query.{functionOf}
 use Rattle.queries.specs.declared.Record.the-variants as Record
 use Rattle.queries.specs.Arms.{applyRecord}

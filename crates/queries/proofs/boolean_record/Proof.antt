@@ -8,7 +8,7 @@ use Prim.Native.Nat.{_+_, _≤_}
 use lib.ListN.{length}
 use Rattle.cells.specs.Cell.{cellOf}
 use Rattle.cells.specs.declared.Item.the-variants as Item
-use Rattle.meaning.specs.Attempt.{attempt}
+use Rattle.laws.specs.Attempt.{attempt}
 use Rattle.meaning.specs.Query.{booleanOf}
 use Rattle.queries.specs.declared.Record.the-variants as Record
 use Rattle.queries.specs.Arms.{booleanRecord}

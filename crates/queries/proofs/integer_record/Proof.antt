@@ -13,7 +13,7 @@ use mir.Val.{toZ, ofZ}
 use mir.ValLaws.{toZ-ofZ}
 use Rattle.cells.specs.Cell.{cellOf}
 use Rattle.cells.specs.declared.Item.the-variants as Item
-use Rattle.meaning.specs.Attempt.{gives}
+use Rattle.laws.specs.Attempt.{gives}
 use Rattle.meaning.specs.Query.{literal}
 use Rattle.queries.specs.declared.Record.the-variants as Record
 use Rattle.queries.specs.Arms.{integerRecord}

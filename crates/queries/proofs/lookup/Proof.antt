@@ -1,7 +1,7 @@
 -- `lookup` meets its contract, by the flag.
 use mathlib.Core.Path.{sym, _∙_}
 use borrow.Author.Needs.{needs}
-use Rattle.meaning.specs.Attempt.{unless}
+use Rattle.laws.specs.Attempt.{unless}
 use Rattle.queries.specs.Decoded.{walked}
 use Rattle.queries.proofs.lookup.Statement.{statement}
 use Rattle.queries.proofs.lookup.Tie as tie

@@ -6,7 +6,7 @@ use borrow.Author.Needs.{needs}
 use Rattle.cells.specs.Bytes.{byteAt, fits}
 use Prim.Native.Nat.{_+_, _≤_}
 use lib.ListN.{length}
-use Rattle.meaning.specs.Attempt.{attempt, provided}
+use Rattle.laws.specs.Attempt.{attempt, provided}
 use Rattle.meaning.specs.Query.{fragmentOf}
 use Rattle.queries.specs.declared.Record.the-variants as Record
 use Rattle.queries.specs.Arms.{rootRecord}

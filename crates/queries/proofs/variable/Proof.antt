@@ -6,7 +6,7 @@ use borrow.Author.Needs.{needs}
 use Rattle.cells.specs.Bytes.{byteAt, fits}
 use Prim.Native.Nat.{_+_, _≤_}
 use lib.ListN.{length}
-use Rattle.meaning.specs.Attempt.{provided}
+use Rattle.laws.specs.Attempt.{provided}
 use Rattle.meaning.specs.Query.{variableOf}
 use Rattle.queries.specs.Arms.{variableAt}
 use borrow.Author.Tests.{lt-ltb, le-ltb}

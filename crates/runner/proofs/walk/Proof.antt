@@ -7,7 +7,7 @@ use lib.ListN.{length}
 use Rattle.meaning.specs.Catalogue.{catalogueOf}
 use Rattle.meaning.specs.World.{worldOf}
 use borrow.Author.Needs.{needs}
-use Rattle.plans.specs.Walk.{Bytes}
+use Rattle.cells.specs.Bytes.{Bytes}
 use Rattle.runner.specs.Leaving.{operatorsOf}
 use Rattle.runner.proofs.Going.{Going, going-start}
 use Rattle.runner.proofs.Leaving.{never-unread, read-sound, under-512, turned-leaves, turned-on, turned-counts}

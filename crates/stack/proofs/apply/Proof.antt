@@ -1,6 +1,6 @@
 -- `apply` meets its contract: an operand that is refused is handed on; else the function of the two sides.
 use mathlib.Core.Path.{refl, sym, subst}
-use Rattle.meaning.specs.Attempt.{work}
+use Rattle.laws.specs.Attempt.{work}
 use Rattle.stack.specs.Stack.{FitPair, paired}
 use Rattle.stack.specs.Arms.{applied}
 use Rattle.stack.proofs.Leaving.{leaves-pair, leaves-as, pair-stopped, fit-sums}

@@ -3,12 +3,12 @@ use Prim.Native.Nat.{_+_, _*_, _≤_}
 use mathlib.Core.Path.{_≡_}
 use lib.ListN.{length}
 use borrow.Author.Needs.{needs}
-use Rattle.tellings.proofs.all_groups.Statement.{statement}
-use Rattle.tellings.proofs.all_groups.Tie as tie
-use Rattle.tellings.proofs.all_groups.Reads as reads
-use Rattle.tellings.proofs.all_groups.Lts as lts
+use Rattle.printings.proofs.all_groups.Statement.{statement}
+use Rattle.printings.proofs.all_groups.Tie as tie
+use Rattle.printings.proofs.all_groups.Reads as reads
+use Rattle.printings.proofs.all_groups.Lts as lts
 use Rattle.cases.proofs.next_byte.Reads as next-byte-reads
-use Rattle.tellings.proofs.one_group.Reads as one-group-reads
+use Rattle.printings.proofs.one_group.Reads as one-group-reads
 
 abbrev Inv-loop : tie.InvT-loop
 Inv-loop fd query₀ doc₀ left₀ first₀ query doc left first =

@@ -3,11 +3,11 @@ use Prim.Native.Nat.{_+_, _≤_}
 use mathlib.Core.Path.{_≡_}
 use lib.ListN.{length}
 use borrow.Author.Needs.{needs}
-use Rattle.tellings.proofs.each_case.Statement.{statement}
-use Rattle.tellings.proofs.each_case.Tie as tie
-use Rattle.tellings.proofs.each_case.Reads as reads
-use Rattle.tellings.proofs.each_case.Lts as lts
-use Rattle.tellings.proofs.next_case.Reads as next-case-reads
+use Rattle.printings.proofs.each_case.Statement.{statement}
+use Rattle.printings.proofs.each_case.Tie as tie
+use Rattle.printings.proofs.each_case.Reads as reads
+use Rattle.printings.proofs.each_case.Lts as lts
+use Rattle.printings.proofs.next_case.Reads as next-case-reads
 
 abbrev Inv-loop : tie.InvT-loop
 Inv-loop fd times first query₀ doc left₀ query left =

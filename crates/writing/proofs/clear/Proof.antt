@@ -3,7 +3,7 @@ use Prim.Native.Nat.{_-_, _≤_}
 use mathlib.Core.Path.{_≡_, refl, sym, _∙_}
 use native.Mathlib.Omega.{arith}
 use lib.ListN.{length, take, length-set}
-use Rattle.meaning.specs.Calls.{padded}
+use Rattle.laws.specs.Rows.{padded}
 use Rattle.writing.proofs.Penned.{cleared-more, cleared-all}
 use borrow.Author.Needs.{needs}
 use Rattle.writing.proofs.clear.Statement.{statement}

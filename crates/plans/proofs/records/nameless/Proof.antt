@@ -1,6 +1,6 @@
 -- `nameless` meets its contract, by the test of the name.
 use borrow.Author.Tests.{ne-eqb}
-use Rattle.meaning.specs.Attempt.{provided}
+use Rattle.laws.specs.Attempt.{provided}
 use Rattle.plans.proofs.records.nameless.Statement.{statement}
 use Rattle.plans.proofs.records.nameless.Tie as tie
 

@@ -5,7 +5,7 @@ use mathlib.Core.Path.{_≡_, sym, _∙_, subst}
 use native.Mathlib.Omega.{arith}
 use lib.ListN.{length}
 use Rattle.laws.specs.Rows.{row, rowsAt}
-use Rattle.meaning.specs.Attempt.{each}
+use Rattle.laws.specs.Attempt.{each}
 use Rattle.tables.specs.declared.Laid.the-variants.{Rows}
 use Rattle.tables.specs.Layout.{Owes, Inside, tableAt}
 use Rattle.tables.specs.Tasks.{Settled, joinOne}

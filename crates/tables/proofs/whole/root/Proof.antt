@@ -4,7 +4,7 @@ use native.Mathlib.Omega.{arith}
 use mir.Syntax.{w64}
 use mir.Val.{SFits}
 use mir.Facts.{toZ-ofZ}
-use Rattle.meaning.specs.Attempt.{gives}
+use Rattle.laws.specs.Attempt.{gives}
 use Rattle.items.specs.Answers.{tried}
 use Rattle.tables.specs.Layout.{Owes}
 use Rattle.tables.specs.Tasks.{wider, Suits}

@@ -2,7 +2,7 @@
 use Prim.Native.Nat.{_+_, _*_, _≤_}
 use mathlib.Core.Path.{refl, sym, ap, subst}
 use native.Mathlib.Omega.{arith}
-use Rattle.meaning.specs.Attempt.{gives}
+use Rattle.laws.specs.Attempt.{gives}
 use Rattle.tables.specs.declared.Laid.the-variants.{Rows}
 use Rattle.tables.specs.Layout.{Owes, Inside, tableAt}
 use Rattle.tables.proofs.Promise.{owes-is, owes-wide}

@@ -5,7 +5,7 @@ use native.Mathlib.Omega.{arith}
 use lib.Dec.{lit≤}
 use Rattle.meaning.specs.Query.{QO}
 use Rattle.meaning.specs.Translation.{tr, tailO}
-use Rattle.meaning.proofs.Closed.{records}
+use Rattle.theorems.proofs.Closed.{records}
 use Rattle.queries.specs.Parse.{parse}
 use Rattle.translator.proofs.Rooms.{room-less, first-asked, second-asked, two-room}
 use Rattle.translator.proofs.Composing.{two-made}

@@ -6,7 +6,7 @@ use native.Mathlib.Omega.{arith}
 use lib.Dec.{lit≤}
 use Rattle.meaning.specs.Query.{QL, QE, QR, QV}
 use Rattle.meaning.specs.Translation.{tr}
-use Rattle.meaning.proofs.Closed.{records}
+use Rattle.theorems.proofs.Closed.{records}
 use Rattle.queries.specs.declared.Record.{Record}
 use Rattle.queries.specs.Decoded as Code
 use Rattle.queries.specs.Decoded.{SmallLiteral}

@@ -5,7 +5,7 @@ use mathlib.Core.Path.{refl}
 use native.Mathlib.Omega.{arith}
 use lib.Dec.{lit≤}
 use Rattle.meaning.specs.Query.{QF}
-use Rattle.meaning.proofs.Closed.{records}
+use Rattle.theorems.proofs.Closed.{records}
 use Rattle.queries.specs.Parse.{parse}
 use Rattle.translator.proofs.Rooms.{room-less, first-asked, first-room, head-room, body-asked, body-room}
 use Rattle.translator.proofs.Composing.{for-made, set-eight}

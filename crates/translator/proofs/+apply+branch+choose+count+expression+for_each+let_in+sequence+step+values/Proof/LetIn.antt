@@ -3,7 +3,7 @@ use Prim.Native.Nat.{ℕ}
 use mathlib.Core.Path.{refl}
 use native.Mathlib.Omega.{arith}
 use Rattle.meaning.specs.Query.{QT}
-use Rattle.meaning.proofs.Closed.{records}
+use Rattle.theorems.proofs.Closed.{records}
 use Rattle.queries.specs.Parse.{parse}
 use Rattle.translator.proofs.Rooms.{first-asked, second-asked}
 use Rattle.translator.proofs.Composing.{let-made}

@@ -5,7 +5,7 @@ use native.Mathlib.Omega.{arith}
 use lib.Dec.{lit≤}
 use Rattle.meaning.specs.Query.{QD}
 use Rattle.meaning.specs.Translation.{tr, tailD}
-use Rattle.meaning.proofs.Closed.{records}
+use Rattle.theorems.proofs.Closed.{records}
 use Rattle.translator.proofs.Rooms.{room-less, only-asked, one-room}
 use Rattle.translator.proofs.Composing.{one-made}
 use borrow.Author.Needs.{needs}

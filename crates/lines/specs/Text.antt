@@ -1,0 +1,139 @@
+-- What the printing program prints (document 01, 'Marked examples', from 'Program `chartask`' on). A text is a list of bytes,
+-- each the ASCII number of a character.
+--     digits k n          n in decimal, k digits at most
+--     decimal n           n in decimal: twenty digits are enough for 64 bits
+--     signed z            .. with its sign
+--     itemLine z          the item of a cell: `int Z`, `bool 0`, `bool 1` or `node R`; a cell that holds no item has no line
+--     refusedLine n p     `refused n at p`
+--     firstLines t xs     `items N` and a line for each of the items xs; or the refusal
+--     refusedWith n t     t is a refusal with number n
+--     agree ..            both gave the same items, or both refused with the same number
+--     verdict ..          room where either gave 6; else whether the engines agree
+--     sameLine v          `same yes`, `same no` or `same room`
+--     text ..             all lines: from what the translator, the runner and the evaluator told, and the items of the two
+--                         engines
+use Prim.Native.Nat.{ℕ, zero, suc, _+_, _/_, _%_}
+use mathlib.Core.List.{List, [], _∷_, _++_}
+use mathlib.Core.Bool.{Bool, true, false, cond, _||_}
+use lib.Dec.{ltb, eqb}
+use lib.IntN.{ℤ, pos, negsuc}
+use lib.ListN.{take}
+use Rattle.cells.specs.Cell.{held}
+use Rattle.cells.specs.declared.Item.the-variants.{Integer, Truth, Node}
+use Rattle.cells.specs.declared.Held.{Held}
+use Rattle.cells.specs.declared.Held.the-variants.{Item, Stray}
+use Rattle.laws.specs.Lists.{gather}
+use Rattle.meaning.specs.Operators.{sameRow}
+use Rattle.lines.specs.declared.Told.{Told}
+use Rattle.lines.specs.declared.Told.the-variants.{Gave, Refused}
+use Rattle.lines.specs.declared.Verdict.{Verdict}
+use Rattle.lines.specs.declared.Verdict.the-variants.{Agree, Differ, Room}
+
+abbrev pub Text : Type 0
+Text = List ℕ
+
+-- 'items ', 'int ', 'bool ', 'node '
+abbrev pub itemsWord : Text
+itemsWord = 105 ∷ 116 ∷ 101 ∷ 109 ∷ 115 ∷ 32 ∷ []
+
+abbrev pub intWord : Text
+intWord = 105 ∷ 110 ∷ 116 ∷ 32 ∷ []
+
+abbrev pub boolWord : Text
+boolWord = 98 ∷ 111 ∷ 111 ∷ 108 ∷ 32 ∷ []
+
+abbrev pub nodeWord : Text
+nodeWord = 110 ∷ 111 ∷ 100 ∷ 101 ∷ 32 ∷ []
+
+-- 'refused ', ' at ', 'same '
+abbrev pub refusedWord : Text
+refusedWord = 114 ∷ 101 ∷ 102 ∷ 117 ∷ 115 ∷ 101 ∷ 100 ∷ 32 ∷ []
+
+abbrev pub atWord : Text
+atWord = 32 ∷ 97 ∷ 116 ∷ 32 ∷ []
+
+abbrev pub sameWord : Text
+sameWord = 115 ∷ 97 ∷ 109 ∷ 101 ∷ 32 ∷ []
+
+-- 'yes', 'no', 'room'
+abbrev pub yesWord : Text
+yesWord = 121 ∷ 101 ∷ 115 ∷ []
+
+abbrev pub noWord : Text
+noWord = 110 ∷ 111 ∷ []
+
+abbrev pub roomWord : Text
+roomWord = 114 ∷ 111 ∷ 111 ∷ 109 ∷ []
+
+-- the end of a line, the digits 0 and 1, '-'
+abbrev pub lineEnd : Text
+lineEnd = 10 ∷ []
+
+abbrev pub truthDigit : Bool → Text
+truthDigit false = 48 ∷ []
+truthDigit true = 49 ∷ []
+
+abbrev pub minus : Text
+minus = 45 ∷ []
+
+unfoldable pub digits : ℕ → ℕ → Text
+digits zero n = []
+digits (suc k) n = cond (ltb n 10) ((48 + n) ∷ []) (digits k (n / 10) ++ ((48 + n % 10) ∷ []))
+
+unfoldable pub decimal : ℕ → Text
+decimal n = digits 20 n
+
+unfoldable pub signed : ℤ → Text
+signed (pos n) = decimal n
+signed (negsuc n) = minus ++ decimal (suc n)
+
+unfoldable pub integerLine : ℤ → Text
+integerLine z = intWord ++ (signed z ++ lineEnd)
+
+unfoldable pub truthLine : Bool → Text
+truthLine b = boolWord ++ (truthDigit b ++ lineEnd)
+
+unfoldable pub nodeLine : ℕ → Text
+nodeLine r = nodeWord ++ (decimal r ++ lineEnd)
+
+unfoldable pub heldLine : Held → Text
+heldLine (Item (Integer z)) = integerLine z
+heldLine (Item (Truth b)) = truthLine b
+heldLine (Item (Node r)) = nodeLine (r .0)
+heldLine Stray = []
+
+unfoldable pub itemLine : ℤ → Text
+itemLine z = heldLine (held z)
+
+unfoldable pub refusedLine : ℕ → ℕ → Text
+refusedLine n p = refusedWord ++ (decimal n ++ (atWord ++ (decimal p ++ lineEnd)))
+
+unfoldable pub itemsLine : ℕ → Text
+itemsLine n = itemsWord ++ (decimal n ++ lineEnd)
+
+unfoldable pub firstLines : Told → List ℤ → Text
+firstLines (Gave n) xs = itemsLine n ++ gather itemLine (take n xs)
+firstLines (Refused n p) xs = refusedLine n p
+
+unfoldable pub refusedWith : ℕ → Told → Bool
+refusedWith n (Gave k) = false
+refusedWith n (Refused m p) = eqb m n
+
+unfoldable pub agree : Told → List ℤ → Told → List ℤ → Bool
+agree (Gave n) xs (Gave m) ys = sameRow (take n xs) (take m ys)
+agree (Gave n) xs (Refused m q) ys = false
+agree (Refused n p) xs other ys = refusedWith n other
+
+unfoldable pub verdict : Told → List ℤ → Told → List ℤ → Verdict
+verdict ran xs evaluated ys =
+    cond (refusedWith 6 ran || refusedWith 6 evaluated) Room (cond (agree ran xs evaluated ys) Agree Differ)
+
+unfoldable pub sameLine : Verdict → Text
+sameLine Agree = sameWord ++ (yesWord ++ lineEnd)
+sameLine Differ = sameWord ++ (noWord ++ lineEnd)
+sameLine Room = sameWord ++ (roomWord ++ lineEnd)
+
+-- after a translator's refusal there is no other line
+unfoldable pub text : Told → Told → List ℤ → Told → List ℤ → Text
+text (Refused n p) ran xs evaluated ys = refusedLine n p
+text (Gave k) ran xs evaluated ys = firstLines ran xs ++ sameLine (verdict ran xs evaluated ys)

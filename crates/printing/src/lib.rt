@@ -1,0 +1,128 @@
+// What program `chartask` prints for the bytes of its two files: all of it but the reading and the writing.
+use evaluator::Evaluated;
+use lines::Told;
+use runner::Ran;
+use translator::Translated;
+ghost use mathlib.Core.Path.{_≡_};
+ghost use Prim.Native.Nat.{_+_, _*_, _≤_};
+ghost use lib.ListN.{length, take};
+ghost use Rattle.laws.specs.Rows.{rowsAt, laid};
+ghost use Rattle.meaning.specs.Operators.{column};
+ghost use Rattle.translator.specs.Answers as Translator;
+ghost use Rattle.runner.specs.Answers as Runner;
+ghost use Rattle.evaluator.specs.Answers as Evaluator;
+ghost use Rattle.lines.specs.Placed.{Put};
+ghost use Rattle.lines.specs.Printed.{valueOf, toldBy, printed};
+ghost use Rattle.printing.specs.Engines.{engines, Within};
+
+// What the translator told: its operators, or its refusal.
+fn plan_told(translated: Translated) -> Told
+    ensures { λ r. ⌜ r ≡ toldBy 0 (Translator.answered translated) ⌝ }
+{
+    match translated {
+        Translated::Plan { operators, .. } => Told::Gave(operators),
+        Translated::Unsound(place) => Told::Refused(1, place),
+        Translated::Excess(place) => Told::Refused(2, place),
+        Translated::Unbound(place) => Told::Refused(3, place),
+        Translated::Longer => Told::Refused(8, 0),
+    }
+}
+
+// What the runner told: the rows of its last table, or its refusal.
+fn run_told(ran: Ran) -> Told
+    ensures { λ r. ⌜ r ≡ toldBy 1 (Runner.answered ran) ⌝ }
+{
+    match ran {
+        Ran::Tables { rows, .. } => Told::Gave(rows),
+        Ran::BadPlan(place) => Told::Refused(5, place),
+        Ran::BadCatalogue(place) => Told::Refused(4, place),
+        Ran::Full(place) => Told::Refused(6, place),
+        Ran::Fails(place) => Told::Refused(7, place),
+    }
+}
+
+// What the evaluator told: its items, or its refusal.
+fn evaluation_told(evaluated: Evaluated) -> Told
+    ensures { λ r. ⌜ r ≡ toldBy 0 (Evaluator.answered evaluated) ⌝ }
+{
+    match evaluated {
+        Evaluated::Items { number, .. } => Told::Gave(number),
+        Evaluated::Unsound(place) => Told::Refused(1, place),
+        Evaluated::Excess(place) => Told::Refused(2, place),
+        Evaluated::Unbound(place) => Told::Refused(3, place),
+        Evaluated::Catalogue(place) => Told::Refused(4, place),
+        Evaluated::Full(place) => Told::Refused(6, place),
+        Evaluated::Failed(place) => Told::Refused(7, place),
+    }
+}
+
+// Keeps the items of the runner's last table; there are none after a refusal.
+fn keep_items(ran: Ran, work: &[i64], kept: &mut [i64])
+    requires { ⌜ Within (Runner.answered ran) (length (now work)) × (valueOf 1 (Runner.answered ran) ≤ length (now kept)) ⌝ }
+    ensures { λ r. ⌜ now (kept .exit) ≡ laid (now (kept .entry)) 0
+        (column (rowsAt (now (work .entry)) (valueOf 0 (Runner.answered ran)) (valueOf 1 (Runner.answered ran)) 3) 2) ⌝ }
+{
+    let Ran::Tables { start, rows, .. } = ran else {
+        return;
+    };
+    lines::keep(work, start, rows, kept);
+}
+
+// Runs the plan, evaluates the query in the same cells, and writes what both told. The runner's items are kept before the cells are
+// lent again.
+fn both(
+    translated: Told,
+    query: &[u8],
+    plan: &[u8],
+    doc: &[u8],
+    work: &mut [i64],
+    kept: &mut [i64],
+    text: &mut [u8],
+) -> usize
+    requires { ⌜ length (now work) ≡ 8192 ⌝ }
+    requires { ⌜ (2730 ≤ length (now kept)) × (87488 ≤ length (now text)) ⌝ }
+    ensures { λ r. ⌜ Put (now (text .entry)) (now (text .exit)) 0
+        (engines translated (now (query .entry)) (now (plan .entry)) (now (doc .entry))) r ⌝ }
+{
+    let ran = runner::run(plan, doc, work);
+    keep_items(ran, work, kept);
+    let evaluated = evaluator::evaluate(query, doc, work);
+    lines::write(
+        text,
+        translated,
+        run_told(ran),
+        kept,
+        evaluation_told(evaluated),
+        work,
+    )
+}
+
+// Writes what `chartask` prints for a query and a catalogue, and answers how many bytes it is. The plan's bytes alone go to the
+// runner; after a translator's refusal no engine is called.
+pub fn tell(
+    query: &[u8],
+    doc: &[u8],
+    plan: &mut [u8],
+    work: &mut [i64],
+    kept: &mut [i64],
+    text: &mut [u8],
+) -> usize
+    requires { ⌜ (length (now plan) ≡ 6144) × (length (now work) ≡ 8192) ⌝ }
+    requires { ⌜ (2730 ≤ length (now kept)) × (87488 ≤ length (now text)) ⌝ }
+    ensures { λ r. ⌜ (take r (now (text .exit)) ≡ printed (now (doc .entry)) (now (query .entry)))
+        × (r ≤ length (now (text .exit))) ⌝ }
+{
+    let translated = translator::translate(query, plan);
+    let told = plan_told(translated);
+    let Translated::Plan { bytes, .. } = translated else {
+        return lines::write(
+            text,
+            told,
+            Told::Refused(0, 0),
+            kept,
+            Told::Refused(0, 0),
+            work,
+        );
+    };
+    both(told, query, &plan[0..bytes], doc, work, kept, text)
+}

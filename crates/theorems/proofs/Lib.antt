@@ -1,0 +1,9 @@
+pub mod Counts
+pub mod Counted
+pub mod Closed
+pub mod Nodes
+pub mod PlanBound
+pub mod PlanWidths
+pub mod PlanFields
+pub mod PlanBytes
+pub mod PlanRead
