@@ -93,6 +93,14 @@ pub fn word2(s: &[u8], at: usize) -> usize
     high * 256 + low
 }
 
+// The mark of a record: its first two bytes.
+pub fn mark(s: &[u8], at: usize) -> u16
+    requires { ⌜ at + 2 ≤ length (now s) ⌝ }
+    ensures { λ r. ⌜ r ≡ Bytes.word (now (s .entry)) at 2 ⌝ }
+{
+    word2(s, at) as u16
+}
+
 // The four bytes from an offset on, as one number.
 pub fn word4(s: &[u8], at: usize) -> usize
     requires { ⌜ at + 4 ≤ length (now s) ⌝ }
@@ -210,7 +218,9 @@ pub fn item_of(cell: i64) -> Held
         -0x8000_0000..=0x7fff_ffff => Held::Item(Item::Integer(cell as i32)),
         0x1_0000_0000 => Held::Item(Item::Truth(false)),
         0x1_0000_0001 => Held::Item(Item::Truth(true)),
-        0x2_0000_0000..=0x7fff_ffff_ffff_ffff => Held::Item(Item::Node(Rank((cell as usize) - 0x2_0000_0000))),
+        0x2_0000_0000..=0x7fff_ffff_ffff_ffff => Held::Item(Item::Node(Rank(
+            (cell as usize) - 0x2_0000_0000,
+        ))),
         _ => Held::Stray,
     }
 }
