@@ -25,7 +25,8 @@ use Rattle.cells.specs.declared.Item.{Item}
 use Rattle.cells.specs.declared.Item.the-variants.{Integer, Truth, Node}
 use Rattle.cells.specs.declared.Held.{Held}
 use Rattle.cells.specs.declared.Held.the-variants as Held
-use Rattle.laws.proofs.Lists.{All, all-kept, all-below}
+use Rattle.laws.proofs.Lists.{all-kept, all-below}
+use Rattle.laws.specs.Lists.{All}
 use Rattle.laws.specs.Lists.{below}
 use Rattle.laws.specs.Attempt.{fails, gives, attempt, provided}
 use Rattle.meaning.specs.Catalogue.{Catalogue, catalogueOf}

@@ -1,10 +1,7 @@
 -- The written plan of an accepted query reads back (document 01, 'Query records' and 'Plan operators').
 --     RecordFields r      the fields of a record that is read: a plain cell, fragment 1 to 255, variable 0 to 7, a two-byte name
---     Accepted q vs       q is closed under the variables vs, and its fields are in their ranges
 --     query-accepted      a query that is read from bytes is accepted
---     places at os ws     operators with the offsets where their records start, from at on, and with widths ws
 --     plan-back           a sound plan of at most 512 writable operators reads back as they stand
---     PlanBack os ps      the plan os is sound, its bytes are bytes, and they read as ps, which are os in place
 --     query-plan-back     so is the plan of a query that is read from bytes, if it has at most 512 operators
 --     translated          where the translator gives n operators and m bytes, the first m lent bytes are that plan's
 use Prim.Native.Nat.{ℕ, zero, suc, _+_, _*_, _-_, _^_, _≤_, _<_}
@@ -32,11 +29,14 @@ use Rattle.meaning.specs.Written.{testName, operatorBytes, written}
 use Rattle.meaning.specs.Calls.{refusal, planOf, translateOutcome, translateCall}
 use Rattle.laws.specs.Rows.{padded}
 use Rattle.meaning.specs.Calls as Calls
-use Rattle.theorems.proofs.PlanBytes.{writable-back, Byte, operator-small, operator-length}
-use Rattle.theorems.proofs.Closed.{Closed}
-use Rattle.theorems.proofs.PlanWidths.{Every, every-append, widths, attempt-gives, provided-gives, widths-count}
+use Rattle.theorems.proofs.PlanBytes.{writable-back, operator-small, operator-length}
+use Rattle.theorems.specs.PlanBytes.{Byte}
+use Rattle.theorems.proofs.PlanWidths.{every-append, attempt-gives, provided-gives, widths-count}
+use Rattle.theorems.specs.PlanWidths.{Every, widths}
 use Rattle.laws.proofs.Booleans.{both-true}
-use Rattle.theorems.proofs.PlanFields.{Writable, Width, plan-sound, Fields}
+use Rattle.theorems.proofs.PlanFields.{plan-sound}
+use Rattle.theorems.specs.PlanFields.{Writable, Fields}
+use Rattle.theorems.specs.PlanRead.{ClosedFields, places, PlanBack, Translated}
 
 -- The fields of a record that is read
 
@@ -182,10 +182,6 @@ module _ (bs : List ℕ) (at : ℕ) (h : (i : ℕ) → byteAt bs i < 256) where
 
 -- An accepted query is closed, and its fields are in their ranges
 
-pub record Accepted (q : Query) (vs : List ℕ) : Type 0 where
-  pub closed : Closed q vs
-  pub fields : Fields q
-
 -- readings taken apart
 reads-same : {A : Type 0} (x y : A) → _≡_ {A = Reading A} (reads x) (reads y) → x ≡ y
 reads-same x y e = cc
@@ -246,7 +242,7 @@ three-tree P Q R S f c a b g h k m r e =
     (λ y z. g (x .tree) y z (h x p)) (k (x .records) (x .next)) m r q
 
 abbrev In : List ℕ → Query → Type 0
-In vs q = Accepted q vs
+In vs q = ClosedFields q vs
 
 module _ (rd : Operand) (ih : (vs : List ℕ) (n at : ℕ) → Trees (In vs) (rd vs n at)) (vs : List ℕ) (at n next : ℕ) where
   variable-accepted : (v : ℕ) → v < 8 → Trees (In vs) (unless (bound v vs) 3 at (leaf (QV at v) next n))
@@ -297,7 +293,7 @@ module _ (rd : Operand) (ih : (vs : List ℕ) (n at : ℕ) → Trees (In vs) (rd
 
 pub read-accepted :
     (d : ℕ) (bs : List ℕ) → ((i : ℕ) → byteAt bs i < 256) →
-    (vs : List ℕ) (n at : ℕ) (r : Read) → read d bs vs n at ≡ reads r → Accepted (r .tree) vs
+    (vs : List ℕ) (n at : ℕ) (r : Read) → read d bs vs n at ≡ reads r → ClosedFields (r .tree) vs
 unfolding read recordAt
 read-accepted zero bs h vs n at r e =
     let (x, p, q) = reading-reads (recordAt bs at) (λ x. refuses 2 at) r e in
@@ -312,7 +308,7 @@ read-accepted (suc d) bs h vs n at r e =
     operands-accepted (read d bs) (read-accepted d bs h) vs at (suc n) (x .1) (x .0) k r s
 
 pub query-accepted :
-    (bs : List ℕ) → ((i : ℕ) → byteAt bs i < 256) → (r : Read) → queryRead bs ≡ reads r → Accepted (r .tree) []
+    (bs : List ℕ) → ((i : ℕ) → byteAt bs i < 256) → (r : Read) → queryRead bs ≡ reads r → ClosedFields (r .tree) []
 unfolding queryRead
 query-accepted bs h r e =
     let go : Read → Reading Read = λ x. unless (eqb (x .next) (length bs)) 1 (x .next) (reads x) in
@@ -321,12 +317,6 @@ query-accepted bs h r e =
     read-accepted 32 bs h [] 0 0 r (p ∙ s)
 
 -- A plan read back
-
--- operators with their offsets and the widths of their tables
-unfoldable pub places : ℕ → List Op → List ℕ → List Placed
-places at [] ws = []
-places at (o ∷ os) [] = []
-places at (o ∷ os) (w ∷ ws) = record { at = at; op = o; width = w } ∷ places (at + length (operatorBytes o)) os ws
 
 abbrev widthsOf : List Placed → List ℕ
 widthsOf ps = map (λ (p : Placed). p .width) ps
@@ -518,17 +508,6 @@ written-length [] h = lit≤ tt
 written-length (o ∷ os) h =
     simp length-append (omega (arith, operator-length o (h .0), written-length os (h .1)))
 
--- the plan of an accepted query: it is sound, its bytes are bytes, and they read back as its operators
-pub record PlanBack (os : List Op) (ps : List Placed) : Type 0 where
-  pub front : List ℕ
-  pub sound : widths [] os ≡ gives (front ++ (3 ∷ []))
-  pub each : Every Width (front ++ (3 ∷ []))
-  pub bytes : Every Byte (written os)
-  pub room : length (written os) ≤ 6144
-  pub back : planRead (written os) ≡ reads ps
-  pub ops : map (λ (p : Placed). p .op) ps ≡ os
-  pub placed : ps ≡ places 0 os (front ++ (3 ∷ []))
-
 pub query-plan-back :
     (bs : List ℕ) (r : Read) → ((i : ℕ) → byteAt bs i < 256) → queryRead bs ≡ reads r → length (plan (r .tree)) ≤ 512 →
     (ps : List Placed) × PlanBack (plan (r .tree)) ps
@@ -552,13 +531,6 @@ query-plan-back bs r h e few =
     )
 
 -- What the translator leaves in the lent bytes
-
-pub record Translated (query : List ℕ) (lent n m : ℕ) : Type 0 where
-  pub read : Read
-  pub accepted : queryRead query ≡ reads read
-  pub operators : n ≡ length (plan (read .tree))
-  pub within : n ≤ 512
-  pub bytes : take m (translateCall query lent .left) ≡ written (plan (read .tree))
 
 outcome-reads :
     (lent n m : ℕ) (a : Reading (List Op)) → translateOutcome lent a .answer ≡ Calls.gives (n ∷ m ∷ []) →
