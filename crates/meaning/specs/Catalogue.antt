@@ -2,6 +2,8 @@
 --     Catalogue             the rows by rank: how many, and each one's size, level, kind and prop
 --     catalogueOf doc n     the first n rows of the bytes
 --     markDN                the two bytes 'DN'
+--     element, text         the two kinds, 1 and 3
+--     isName z              z is a name number, 0 to 65535
 --     ownSound c r most     row r's own fields are sound, where its level may be at most `most`
 --     rowSound doc r most   the same of a row that is all there and has its mark
 --     rowsSound ..          the row checks from row r on, left to right: the number of rows, or refusal 4 at the row
