@@ -33,8 +33,8 @@ MOST_SHOWN = 5
 
 LETTERS, SMALL, LINE = 11, 10, 12
 PAD, GAP, TRACK, MARGIN = 9, 18, 7, 12
-LEGEND = ("A card is an operator and the table it makes: its number, its mark, and after @ the byte where its record begins. "
-          "A box is a part of the query.")
+LEGEND = "A card is an operator and the table it makes: its number, its mark, and after @ the byte where its record begins."
+OF_PARTS = " A box is a part of the query."
 
 
 class Made(NamedTuple):
@@ -477,7 +477,7 @@ class Drawing:
 
     def legend(self):
         """How to read it."""
-        return svg.wrapped(LEGEND, self.width - 2 * MARGIN, SMALL)
+        return svg.wrapped(LEGEND + (OF_PARTS if self.whole.parts else ""), self.width - 2 * MARGIN, SMALL)
 
     def draw(self):
         """The picture: boxes, lines, titles, cards."""

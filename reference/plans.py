@@ -32,6 +32,7 @@ from plan_drawing import shown
 
 FUNCTIONS = {**xquery.OPERATIONS, VALUE: "value"}
 STEPS = {xquery.step(axis, test, 0): (axis, test, 0) for axis in xquery.AXES for test in (0, 1, 2)}
+STEPS |= {f"{name}::*": (axis, 1, 0) for axis, name in xquery.AXES.items()}
 
 
 class Unreadable(Exception):

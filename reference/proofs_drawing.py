@@ -35,15 +35,16 @@ GROUPS = [
            ("make run", "what an operator makes, what a plan makes"),
            ("evaluate running", "the same with room and places"),
            ("catalogueCall queryCall translateCall runCall evaluateCall", "what each public call answers and leaves"))),
-    Group("theorems on the definitions", "theorems", "theorems agreement order", "proofs",
-          (("agreement", "every turn's rows hold what the query means"),
-           ("simulates", "operators by number do what the rules say"),
-           ("same-run-read", "a plan's run and the query's meaning agree"),
-           ("query-plan-back", "a written plan reads back"),
+    Group("theorems on the definitions", "theorems", "theorems", "proofs",
+          (("query-plan-back", "a written plan reads back"),
            ("plan-bound", "at most 37 operators a record, plus 3"),
            ("evaluate-done running-done", "room changes no answer but 6"),
            ("counts", "items never exceed the count, nor it the room"),
            ("marked", "the marked examples"))),
+    Group("a run agrees with what the query means", "theorems", "agreement order", "proofs",
+          (("agreement", "every turn's rows hold what the query means"),
+           ("simulates", "operators by number do what the rules say"),
+           ("same-run-read", "a plan's run and the query's meaning agree"))),
     Group("the checks", "code", "catalogue query_records query_walks queries plan_records plans", "specs",
           (("answered", "their contracts: catalogueCall, queryCall"),)),
     Group("items, steps, the stack", "code", "items marks axes steps stack", "specs", ()),
@@ -59,13 +60,15 @@ GROUPS = [
           "cases vectors evaluations translations runs tellings stored", "", ()),
 ]
 
-# The one page of promises stands in a crate of theorems.
+# Theorems on the definitions stand partly beside them, in the same crate; the one page of promises in a crate of theorems.
 PROMISES = Group("what is promised, on one page", "promises", "agreement", "specs",
                  (("Demand1", "a refused call leaves zeros"), ("Demand2", "answers are what the definitions say"),
                   ("Demand3", "run and evaluation agree, or both fail"),
                   ("Demand3InHand", "the same, for whoever calls the code"),
                   ("RoomSentence", "6 exactly where the room is too small"),
                   ("Decides", "a contract leaves no choice"), ("ShutOut", "engines that keep no contract")))
+
+ALSO = [(GROUPS[1].name, GROUPS[2].name), (GROUPS[2].name, GROUPS[3].name), (GROUPS[3].name, PROMISES.name)]
 
 LETTERS, SMALL, LINE, MARGIN, GUTTER, ROW = 12, 10, 14, 12, 26, 30
 WIDTH = 860
@@ -97,26 +100,29 @@ def arrows(below):
         if crate not in groups:
             raise Unknown(f"crates.txt lists {crate}, and no group of reference/proofs_drawing.py has it")
     stands = {(groups[on].name, groups[crate].name) for crate, its in below.items() for on in its
-              if on in groups and groups[on] is not groups[crate]}
+              if on in groups and groups[on] is not groups[crate]} | set(ALSO)
     return sorted(pair for pair in stands if not follows(pair, stands))
 
 
 def follows(pair, stands):
-    """Whether the upper group stands on the lower one by way of others."""
+    """Whether the upper group stands on the lower one by way of others.
+
+    Code is proved against the definitions, also where it uses theorems on them: that arrow stays.
+    """
+    theorems = {group.name for group in GROUPS if group.kind == "theorems"}
     reached, ahead = set(), [upper for lower, upper in stands if lower == pair[0] and (lower, upper) != pair]
     while ahead:
         here = ahead.pop()
         if here not in reached:
             reached.add(here)
-            ahead += [upper for lower, upper in stands if lower == here]
+            if here not in theorems or pair[0] in theorems or pair[1] in theorems:
+                ahead += [upper for lower, upper in stands if lower == here]
     return pair[1] in reached
 
 
 def check_names(group, listed):
     """Each name that is shown is declared in one of the group's crates; a theorem on the definitions also beside them."""
-    crates = [crate for crate in group.crates.split() if crate in listed]
-    if group.kind == "theorems":
-        crates.append("meaning")
+    crates = [crate for crate in group.crates.split() if crate in listed] + (["meaning"] if group is GROUPS[2] else [])
     files = [path for crate in crates for path in sorted((ROOT / "crates" / crate / group.folders).rglob("*.antt"))]
     text = "\n".join(path.read_text() for path in files)
     for name in " ".join(names for names, _ in group.shows).split():
@@ -138,9 +144,10 @@ class Box:
 
     def crates_text(self, listed):
         """Its crates, in the order of crates.txt."""
-        its = " ".join(crate for crate in listed if crate in self.group.crates.split())
+        crates = [crate for crate in listed if crate in self.group.crates.split()]
+        its = " ".join(crates + ["meaning"] if self.group is GROUPS[2] else crates)
         return {"promises": "agreement: specs/Promises.antt", "definitions": f"{its}: specs/",
-                "theorems": f"{its} meaning: proofs/"}.get(self.group.kind, its)
+                "theorems": f"{its}: proofs/"}.get(self.group.kind, its)
 
     def shown(self, names, says):
         """The names, and what they say: in one line where that fits. A contract's own name is the same everywhere."""
@@ -167,7 +174,7 @@ class Box:
 
 def place(boxes):
     """Two columns over the definitions: theorems and promises at the left, code at the right. Returns the height."""
-    (ground, definitions, theorems, checks, items, operators, translator, evaluator, runner, printed, stored,
+    (ground, definitions, theorems, agreement, checks, items, operators, translator, evaluator, runner, printed, stored,
      promises) = boxes
     y = MARGIN
     for box in (stored, printed):
@@ -177,11 +184,11 @@ def place(boxes):
     runner.y, operators.y = y, y + runner.height + ROW
     items.y = operators.y + operators.height + ROW
     checks.y = items.y + items.height + ROW
-    translator.height = max(translator.height, 70)
     translator.y = engines + (operators.y + operators.height - engines - translator.height) / 2
     evaluator.y = engines + (operators.y + operators.height - engines - evaluator.height) / 2
     promises.y = MARGIN
     theorems.y = checks.y + checks.height - theorems.height
+    agreement.y = (promises.height + MARGIN + theorems.y - agreement.height) / 2
     definitions.y = checks.y + checks.height + ROW
     ground.y = definitions.y + definitions.height + ROW
     return ground.y + ground.height
@@ -197,7 +204,7 @@ def path(lower, upper):
     return [(lower.x + lower.width, out), (gutter, out), (gutter, upper.y + 20), (upper.x, upper.y + 20)]
 
 
-LEGEND = ("An arrow goes up from what is believed or proved to what is proved over it, as crates.txt has it. Code is proved "
+LEGEND = ("An arrow goes from what is believed or proved to what is proved over it, as crates.txt has it. Code is proved "
           "against the definitions; no engine is right because another one is.")
 
 
@@ -205,7 +212,7 @@ def drawing():
     """The picture."""
     below = dependencies()
     right = MARGIN + LEFT + GUTTER
-    x_and_width = [(MARGIN, WIDTH - 2 * MARGIN), (MARGIN, WIDTH - 2 * MARGIN), (MARGIN, LEFT), (right, RIGHT),
+    x_and_width = [(MARGIN, WIDTH - 2 * MARGIN), (MARGIN, WIDTH - 2 * MARGIN), (MARGIN, LEFT), (MARGIN, LEFT), (right, RIGHT),
                    (right + THIRD + 14, 2 * THIRD + 14), (right + 2 * THIRD + 28, THIRD), (right, THIRD),
                    (right + THIRD + 14, THIRD), (right + 2 * THIRD + 28, THIRD), (right, RIGHT), (right, RIGHT),
                    (MARGIN, LEFT)]
@@ -215,7 +222,7 @@ def drawing():
     height = place(boxes) + MARGIN
     named = {box.group.name: box for box in boxes}
     picture = svg.Picture("How the proofs hang together: definitions, theorems, code, promises")
-    for lower, upper in [*arrows(below), (GROUPS[2].name, PROMISES.name)]:
+    for lower, upper in arrows(below):
         picture.line(path(named[lower], named[upper]), KINDS[named[lower].group.kind][1], 1.6)
     for box in boxes:
         box.draw(picture)
