@@ -15,8 +15,9 @@ sys.dont_write_bytecode = True
 
 import at_bounds
 import faults
-import faults_in_engines  # each of the three notes its faults
+import faults_in_engines  # each of the four notes its faults
 import faults_in_meaning
+import faults_in_order
 import faults_in_readers
 import generate
 import query
@@ -99,17 +100,23 @@ def write_checks():
     return stored.write("vectors", [case for call in stored.CHECKS for case in cases(call)])
 
 
+def tells(call, given, text, number):
+    """Whether the stored case shows the fault that is planted now."""
+    if call == "shuffled":
+        return faults.leans(*given)
+    try:
+        now = stored.printed_now("chartask" if call == "agreement" else call, given, number)
+    except (IndexError, KeyError, TypeError, ValueError) as error:
+        now = type(error).__name__
+    return now.endswith("same no\n") if call == "agreement" else now != text
+
+
 def first_to_tell(fault, kept):
-    """The first stored case that prints another text with the fault planted: its call and number; or None."""
+    """The first stored case that tells of the fault: its call and number; or None."""
     with faults.planted(fault):
         for call in fault.calls:
-            its_call = "chartask" if call == "agreement" else call
-            for given, text, number in kept[its_call]:
-                try:
-                    now = stored.printed_now(its_call, given, number)
-                except (IndexError, KeyError, TypeError, ValueError) as error:
-                    now = type(error).__name__
-                if now.endswith("same no\n") if call == "agreement" else now != text:
+            for given, text, number in kept["chartask" if call in ("agreement", "shuffled") else call]:
+                if tells(call, given, text, number):
                     return call, number
     return None
 
@@ -120,13 +127,14 @@ def plant_faults():
     for call, its_cases in kept.items():
         wrong = [number for given, text, number in its_cases if stored.printed_now(call, given, number) != text]
         yield f"{call}: {len(its_cases)} stored cases, {len(wrong)} of them not as the model prints them"
-    caught = 0
+    caught = moved = 0
     for fault in faults.FAULTS:
         found = first_to_tell(fault, kept)
         caught += found is not None
+        moved += found is not None and found[0] == "shuffled"
         if found is None:
             yield f"NOT CAUGHT: {fault.name}"
-    yield f"{caught} of {len(faults.FAULTS)} faults caught by the stored cases"
+    yield f"{caught} of {len(faults.FAULTS)} faults caught by the stored cases, {moved} of them where rows are moved"
 
 
 def report(what):
