@@ -153,5 +153,5 @@ def is_what(catalogue, rank):
 
 def rows_of(catalogue):
     """The rows, each with what it is."""
-    heads = ["rank", "size", "level", "kind", "prop", ""]
+    heads = ["rank", "size", "level", "kind", "prop", "what it is"]
     return grid(heads, [[str(rank), *map(str, row[1:]), is_what(catalogue, rank)] for rank, row in enumerate(catalogue.rows)])

@@ -10,7 +10,7 @@ from faults import fault
 from plan import NO_COLUMN
 
 
-@fault("the end of a for numbered as its rows stand", "agreement", translator, "body_by_inner_iteration")
+@fault("the end of a for numbered as its rows stand", "agreement shuffled", translator, "body_by_inner_iteration")
 def results_as_they_stand(to, body, to_map):
     return to.project(to.number(to.join(body, 0, to_map, 1), 3, 3, 3), 3, 5, 2)
 

@@ -4,6 +4,7 @@
     python3 reference/vectors.py evaluate       crates/evaluations; likewise run, translate and chartask
     python3 reference/vectors.py all            all of these
     python3 reference/vectors.py faults         plants the faults and tries them on the files as they stand
+    python3 reference/vectors.py order          the faults of order: how many stored texts tell, and how many shuffled runs
 
 How the files are laid out is said in stored.py. What must be printed is the model's alone.
 """
@@ -121,6 +122,11 @@ def first_to_tell(fault, kept):
     return None
 
 
+def told_in_a_plain_run(fault, kept):
+    """Whether some stored text of chartask is another with the fault planted, nobody moving rows."""
+    return first_to_tell(fault._replace(calls=("chartask",)), kept) is not None
+
+
 def plant_faults():
     """A line for each fault that no stored case tells of, and last how many are caught."""
     kept = {call: stored.read(call) for call in stored.CRATE_OF}
@@ -131,16 +137,32 @@ def plant_faults():
     for fault in faults.FAULTS:
         found = first_to_tell(fault, kept)
         caught += found is not None
-        moved += found is not None and found[0] == "shuffled"
         if found is None:
             yield f"NOT CAUGHT: {fault.name}"
-    yield f"{caught} of {len(faults.FAULTS)} faults caught by the stored cases, {moved} of them where rows are moved"
+        elif found[0] == "shuffled":
+            moved += 1
+            if told_in_a_plain_run(fault, kept):
+                yield f"NOT CAUGHT by moved rows alone, as it is noted: {fault.name}"
+    yield f"{caught} of {len(faults.FAULTS)} faults caught by the stored cases, {moved} of them only where rows are moved"
+
+
+def count_of_order():
+    """For each fault of order: the stored texts that change, and the stored queries whose plan then leans on order."""
+    kept = stored.read("chartask")
+    for fault in faults.FAULTS:
+        if "shuffled" in fault.calls:
+            with faults.planted(fault):
+                changed = sum(stored.printed_now("chartask", given, number) != text for given, text, number in kept)
+                leaning = sum(faults.leans(*given) for given, _, _ in kept)
+            yield f"{fault.name}: {changed} of {len(kept)} texts change, {leaning} plans lean on order"
 
 
 def report(what):
     """The lines of one command."""
     if what == "faults":
         yield from plant_faults()
+    if what == "order":
+        yield from count_of_order()
     if what in ("checks", "all"):
         yield write_checks()
     for call in stored.SHARED:
@@ -151,7 +173,7 @@ def report(what):
 def main(arguments):
     """The exit status: 2 for a word that is no command, 1 where a fault is not caught."""
     what = arguments[0] if arguments else "checks"
-    if what not in ("checks", "all", "faults", *stored.SHARED):
+    if what not in ("checks", "all", "faults", "order", *stored.SHARED):
         print(__doc__)
         return 2
     well = True
