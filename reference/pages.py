@@ -23,6 +23,7 @@ import described
 import query
 import reach
 import worked
+from cells import Refused
 from worked import Asked, Wrong
 
 ROOT = pathlib.Path(__file__).resolve().parent.parent
@@ -72,10 +73,10 @@ def clause(path, words):
 def some_tables(asked, numbers):
     """Those tables, or all."""
     texts, _ = worked.described_tables(asked)
-    missing = [number for number in numbers if number >= len(texts)]
-    if missing:
-        raise Wrong(f"the run has no table {missing[0]}")
-    return "\n".join(texts[number] for number in numbers or range(len(texts)))
+    for number in numbers:
+        if not number.isdecimal() or int(number) >= len(texts):
+            raise Wrong(f"the run has no table {number}")
+    return "\n".join(texts[int(number)] for number in numbers) if numbers else "\n".join(texts)
 
 
 def asked_of(name, options):
@@ -107,7 +108,7 @@ def block(line):
         case "rows":
             return described.rows_of(catalogue.read(worked.given(asked.folder)[1]))
         case "tables":
-            return some_tables(asked, [int(number) for number in numbers.split()])
+            return some_tables(asked, numbers.split())
         case "prints":
             return fenced(worked.prints(asked))
         case "read":
@@ -123,4 +124,6 @@ def filled(page):
             return f"{found[1]}\n\n{block(found[1])}\n<!-- end -->"
         except Wrong as wrong:
             raise Wrong(f"{found[1]}: {wrong}") from None
+        except Refused as refused:
+            raise Wrong(f"{found[1]}: refused {refused.number} at {refused.place}") from None
     return re.sub(rf"(<!-- (?:{KINDS})(?: [^\n]*?)? -->)\n.*?<!-- end -->", made, page, flags=re.S)

@@ -179,5 +179,5 @@ def both_ends(asked):
     """The last table read by rising place, with the rows as they stand and with the rows moved."""
     with planted(asked.fault):
         plain, by_hand = (run(one).end for one in (asked._replace(moving=()), asked))
-    verdict = "the same list" if plain == by_hand else "NOT the same list"
+    verdict = f"{'the' if plain == by_hand else 'NOT the'} same {'refusal' if plain[0] else 'list'}"
     return f"rows as they stand: {end_in_words(plain)}\nrows moved:         {end_in_words(by_hand)}\n{verdict}\n"
