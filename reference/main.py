@@ -1,4 +1,9 @@
-"""The model's one command: `python3 reference/main.py` checks it, `--faults` plants the faults."""
+"""The model's one command.
+
+    python3 reference/main.py               checks the model
+    python3 reference/main.py --faults      plants the faults
+    python3 reference/main.py --shuffled    runs every plan again with its rows moved
+"""
 
 import sys
 import time
@@ -7,19 +12,21 @@ sys.dont_write_bytecode = True
 
 import check
 import faults
-import faults_in_engines  # each of the three notes its faults
+import faults_in_engines  # each of the four notes its faults
 import faults_in_meaning
+import faults_in_order
 import faults_in_readers
 
 PAIRS = 20000
+MOVED = 24000  # about half of them have a table of two rows or more
 DRAWN = 400
 SEED = 1
 
 
-def check_model():
+def checked(lines):
     """Prints a line for each check; says whether all hold."""
     try:
-        for line in check.report(PAIRS, DRAWN, SEED):
+        for line in lines:
             print(line, flush=True)
     except check.Wrong as wrong:
         print(f"WRONG: {wrong}")
@@ -36,10 +43,25 @@ def plant_faults():
     return all_caught
 
 
+def check_model():
+    """All but what `--shuffled` adds."""
+    return checked(check.report(PAIRS, DRAWN, SEED))
+
+
+def check_moved():
+    """The runs whose rows are moved, all of them."""
+    return checked(check.report_moved(MOVED, SEED))
+
+
 def main(arguments):
-    """The exit status: 0 if all is well."""
+    """The exit status: 0 if all is well, 1 if not, 2 for a word that is no command."""
     began = time.monotonic()
-    well = plant_faults() if arguments == ["--faults"] else check_model()
+    ways = {"": check_model, "--faults": plant_faults, "--shuffled": check_moved}
+    way = ways.get(" ".join(arguments))
+    if not way:
+        print(__doc__)
+        return 2
+    well = way()
     print(f"{'all is well' if well else 'NOT WELL'}, {time.monotonic() - began:.0f} s")
     return 0 if well else 1
 
