@@ -1,8 +1,10 @@
--- The marked examples of document 01 ('Marked examples'), as one table and one statement, over bytes. Where an engine is meant
+-- The marked examples of document 01 ('Marked examples'), as one table and one statement, over bytes. Where an engine
+-- is meant
 -- both are asked: the evaluator on the query's bytes, the runner on the bytes of the translated plan.
 --     integer, boolean, sequence ..     the bytes of a query record, its operands after it
 --     row size level kind prop          the bytes of a catalogue row
---     Ask                               a question to the calls: a query's items, its plan's size, its run or its evaluation
+--     Ask                               a question to the calls: a query's items, its plan's size, its run or its
+--                                       evaluation
 --                                       in so many lent cells
 --     Told                              what the calls tell
 --     told ask                          the calls' answers to a question
@@ -181,8 +183,11 @@ byZero : List ℕ
 byZero = function 4 (integer (pos 1)) (integer (pos 0))
 
 examples : List (Ask × List Told)
-examples =
-    (itemsOf nested [], both (items (pos 1 ∷ pos 1 ∷ pos 10 ∷ pos 1 ∷ pos 20 ∷ pos 2 ∷ pos 2 ∷ pos 10 ∷ pos 2 ∷ pos 20 ∷ [])))
+examples = (
+  itemsOf nested [],
+  both
+      (items (pos 1 ∷ pos 1 ∷ pos 10 ∷ pos 1 ∷ pos 20 ∷ pos 2 ∷ pos 2 ∷ pos 10 ∷ pos 2 ∷ pos 20 ∷ [])),
+)
     ∷ (itemsOf (function 4 (integer (negsuc 6)) (integer (pos 2))) [], both (items (negsuc 2 ∷ [])))
     ∷ (itemsOf (function 4 (integer (negsuc 2147483647)) (integer (negsuc 0))) [], both (refusal 7))
     ∷ (itemsOf (function 1 (sequence (integer (pos 1)) (integer (pos 2))) empty) [], both (refusal 7))
@@ -191,7 +196,11 @@ examples =
     ∷ (itemsOf (choice (boolean 0) byZero (integer (pos 2))) [], both (items (pos 2 ∷ [])))
     ∷ (itemsOf (letting 0 byZero (integer (pos 2))) [], both (refusal 7))
     ∷ (itemsOf (choice empty (integer (pos 1)) (integer (pos 2))) [], both (items (pos 2 ∷ [])))
-    ∷ (itemsOf (choice (sequence (integer (pos 2)) (boolean 1)) (integer (pos 1)) (integer (pos 2))) [], both (refusal 7))
+    ∷ (
+      itemsOf (choice (sequence (integer (pos 2)) (boolean 1)) (integer (pos 1)) (integer (pos 2))) [],
+      both
+          (refusal 7),
+    )
     ∷ (planOf (integer (pos 10)), numbers (5 ∷ 41 ∷ []) ∷ [])
     ∷ (runOf (integer (pos 10)) [] 13, numbers (10 ∷ 1 ∷ 13 ∷ []) ∷ [])
     ∷ (runOf (integer (pos 10)) [] 12, refusal 6 ∷ [])
@@ -200,7 +209,11 @@ examples =
     ∷ (planOf longitudes, numbers (28 ∷ 214 ∷ []) ∷ [])
     ∷ (runOf longitudes harbours 130, numbers (124 ∷ 2 ∷ 130 ∷ []) ∷ [])
     -- beside the marked ones: all of a's items stand before b's, however many there are
-    ∷ (itemsOf (sequence (sequence (integer (pos 1)) (integer (pos 2))) (integer (pos 3))) [], both (items (pos 1 ∷ pos 2 ∷ pos 3 ∷ [])))
+    ∷ (
+      itemsOf (sequence (sequence (integer (pos 1)) (integer (pos 2))) (integer (pos 3))) [],
+      both
+          (items (pos 1 ∷ pos 2 ∷ pos 3 ∷ [])),
+    )
     ∷ (workOf longitudes harbours 4, numbers (2 ∷ 4 ∷ []) ∷ [])
     ∷ (workOf longitudes harbours 3, refusal 6 ∷ [])
     ∷ []
@@ -211,6 +224,7 @@ marked = refl
 
 -- RD keeps repeated rows of t: they are no set
 repeated-rows-stay :
-    Operators.minus ((pos 1 ∷ []) ∷ (pos 1 ∷ []) ∷ (pos 2 ∷ []) ∷ []) ((pos 2 ∷ []) ∷ []) ≡ (pos 1 ∷ []) ∷ (pos 1 ∷ []) ∷ []
+    Operators.minus ((pos 1 ∷ []) ∷ (pos 1 ∷ []) ∷ (pos 2 ∷ []) ∷ []) ((pos 2 ∷ []) ∷ [])
+    ≡ (pos 1 ∷ []) ∷ (pos 1 ∷ []) ∷ []
 unfolding Operators.minus Operators.sameRow Lists.filter Lists.any Cell.same
 repeated-rows-stay = refl

@@ -1,6 +1,8 @@
--- The five public calls (document 01, 'The eight refusals', 'Room'): for any bytes and any lent length, the answer and what
+-- The five public calls (document 01, 'The eight refusals', 'Room'): for any bytes and any lent length, the answer and
+-- what
 -- stands in the lent slice afterwards. These are what the calls promise.
---     Answer                 gives its values, in the order that document 01 names them; or refused number place, all else 0
+--     Answer                 gives its values, in the order that document 01 names them; or refused number place, all
+--                            else 0
 --     Outcome A              an answer, and what is left in the lent slice
 --     refusal z lent n p     the outcome of a refusal: number and place, and z in all that was lent
 --     lastTable ts           the last table

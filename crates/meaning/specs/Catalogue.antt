@@ -64,7 +64,8 @@ unfoldable pub rowSound : List ℕ → ℕ → ℕ → Bool
 rowSound doc r most =
     fits doc (10 * r) 10 && eqb (word doc (10 * r) 2) markDN && ownSound (catalogueOf doc r) r most
 
--- the rows from r on, of which at most `left` may be there. Row 0 has level 0; a later level is at most the previous plus 1
+-- the rows from r on, of which at most `left` may be there. Row 0 has level 0; a later level is at most the previous
+-- plus 1
 unfoldable pub rowsSound : ℕ → List ℕ → ℕ → ℕ → Reading ℕ
 rowsSound zero doc r most = unless (leb (length doc) (10 * r)) 4 (10 * r) (reads r)
 rowsSound (suc left) doc r most =

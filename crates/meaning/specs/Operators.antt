@@ -115,7 +115,8 @@ itemsInOrder t = column (sort (rising (1 ∷ [])) t) 2
 
 unfoldable pub truths : World → Table → Attempt Table
 truths w t =
-    each (λ x. attempt (w .truth (itemsInOrder (groupOf t 0 x))) (λ b. gives ((x ∷ truthCell b ∷ []) ∷ []))) (groups t 0)
+    each (λ x. attempt (w .truth (itemsInOrder (groupOf t 0 x))) (λ b. gives ((x ∷ truthCell b ∷ []) ∷ [])))
+    (groups t 0)
 
 -- RK: t; fails if a cell of column c occurs twice
 unfoldable pub once : List ℤ → Bool
@@ -125,7 +126,8 @@ once (x ∷ xs) = not (any (same x) xs) && once xs
 -- RX: per different column 0, the step's nodes from column 1, each once, by rising rank
 unfoldable pub steps : World → Axis → Test → Table → Attempt Table
 steps w axis test t =
-    each (λ x. attempt (w .step axis test (column (groupOf t 0 x) 1)) (λ ys. gives (map (λ y. x ∷ y ∷ []) ys))) (groups t 0)
+    each (λ x. attempt (w .step axis test (column (groupOf t 0 x) 1)) (λ ys. gives (map (λ y. x ∷ y ∷ []) ys)))
+    (groups t 0)
 
 -- RO: adds the root cell; fails if t has a row and there is no fragment k
 unfoldable pub rooted : World → Table → ℕ → Attempt Table

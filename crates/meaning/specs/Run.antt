@@ -2,7 +2,8 @@
 --     run w ops ts            the tables ts and those that the operators make after them, or that one fails
 --     cells p t               the cells of the table of an operator: rows times width
 --     Filled                  all tables, and the cells they fill
---     running w room ps ts n  the same with room, n cells filled so far: 6 or 7 at the operator at work, failing before room
+--     running w room ps ts n  the same with room, n cells filled so far: 6 or 7 at the operator at work, failing
+--                             before room
 use Prim.Native.Nat.{ℕ, _+_, _*_}
 use mathlib.Core.List.{List, [], _∷_, _++_}
 use mathlib.Core.Bool.{Bool, true, false}

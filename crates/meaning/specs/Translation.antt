@@ -1,4 +1,5 @@
--- The translation, rule by rule (document 01, 'Translation'). Each expression, under a loop table of one column, gives a table
+-- The translation, rule by rule (document 01, 'Translation'). Each expression, under a loop table of one column, gives
+-- a table
 -- (iter, pos, item). In the rules n is the number of the next operator, l the loop's table, e the variables' tables.
 --     Made                  operators, and the number of the table that holds the result
 --     Tables                the table of each variable
@@ -79,7 +80,8 @@ tailS n a b =
       result = n + 4;
     }
 
--- QF: N = number a, no p, keys 0, 1; attach 1; project 3 4 2 (the variable); from N project 3 (new L), project 0 3 (map)
+-- QF: N = number a, no p, keys 0, 1; attach 1; project 3 4 2 (the variable); from N project 3 (new L), project 0 3
+-- (map)
 unfoldable pub headF : ℕ → ℕ → List Op
 headF n a =
     RN a 255 (0 ∷ 1 ∷ []) ∷ RA n (pos 1) ∷ RP (n + 1) (3 ∷ 4 ∷ 2 ∷ []) ∷ RP n (3 ∷ []) ∷ RP n (0 ∷ 3 ∷ []) ∷ []

@@ -1,4 +1,5 @@
--- What is known of items and of one catalogue (document 01, 'Items and cells', 'Query records'). Everything above this file
+-- What is known of items and of one catalogue (document 01, 'Items and cells', 'Query records'). Everything above this
+-- file
 -- knows items and catalogue only through the record `World`.
 --     World                    what a query needs to know: root, arith, value, truth, step
 --     integerIn h, integerOf a     the integer that is held, or that a cell holds; else it fails
@@ -35,7 +36,8 @@ use Rattle.cells.specs.declared.Held.the-variants as Held
 use Rattle.cells.specs.declared.Function.{Function}
 use Rattle.cells.specs.declared.Function.the-variants.{Add, Subtract, Multiply, Divide, Equal, Less}
 use Rattle.cells.specs.declared.Axis.{Axis}
-use Rattle.cells.specs.declared.Axis.the-variants.{Child, Descendant, DescendantOrSelf, Itself, Parent, Ancestor, Following, Preceding}
+use Rattle.cells.specs.declared.Axis.the-variants.{Child, Descendant, DescendantOrSelf, Itself, Parent, Ancestor}
+use Rattle.cells.specs.declared.Axis.the-variants.{Following, Preceding}
 use Rattle.cells.specs.declared.Test.{Test}
 use Rattle.cells.specs.declared.Test.the-variants.{AnyNode, Element, Text, Named}
 use Rattle.cells.specs.Cell.{held, inRange, same, truthCell, nodeCell}

@@ -9,12 +9,15 @@ use lib.ListN.{length}
 use Rattle.cells.specs.declared.Function.{Function}
 use Rattle.cells.specs.declared.Function.the-variants.{Add, Subtract, Multiply, Divide, Equal, Less}
 use Rattle.cells.specs.declared.Axis.{Axis}
-use Rattle.cells.specs.declared.Axis.the-variants.{Child, Descendant, DescendantOrSelf, Itself, Parent, Ancestor, Following, Preceding}
+use Rattle.cells.specs.declared.Axis.the-variants.{Child, Descendant, DescendantOrSelf, Itself, Parent, Ancestor}
+use Rattle.cells.specs.declared.Axis.the-variants.{Following, Preceding}
 use Rattle.cells.specs.declared.Test.{Test}
 use Rattle.cells.specs.declared.Test.the-variants.{AnyNode, Element, Text, Named}
 use Rattle.cells.specs.Bytes.{bytesOf, bits8}
 use Rattle.laws.specs.Lists.{gather}
-use Rattle.meaning.specs.Plan.{Op, RT, RA, RP, RU, RD, RS, RJ, RN, RF, RV, RC, RE, RK, RX, RO, markRT, markRA, markRP, markRU, markRD, markRS, markRJ, markRN, markRF, markRC, markRE, markRK, markRX, markRO}
+use Rattle.meaning.specs.Plan.{Op, RT, RA, RP, RU, RD, RS, RJ, RN, RF, RV, RC, RE, RK, RX, RO, markRT, markRA}
+use Rattle.meaning.specs.Plan.{markRP, markRU, markRD, markRS, markRJ, markRN, markRF, markRC, markRE, markRK}
+use Rattle.meaning.specs.Plan.{markRX, markRO}
 
 unfoldable pub functionNumber : Function → ℕ
 functionNumber Add = 1

@@ -1,5 +1,6 @@
 -- One operator's bytes read back as that operator (document 01, 'Items and cells' and 'Plan operators').
---     byte-at, word-first, columns-at, fits-at     reading past the bytes xs is reading from the start of what follows them
+--     byte-at, word-first, columns-at, fits-at     reading past the bytes xs is reading from the start of what follows
+--                                                  them
 --     plain-mag           an integer's or a boolean's cell is in the signed 64-bit range
 --     record-of m t rest  a record with the mark R m, the table t and the rest
 --     operator-back       that holds of every writable operator
@@ -23,12 +24,16 @@ use Rattle.cells.proofs.Bytes.{word-after, word-written, bits8-room, signed-bit
 use Rattle.cells.specs.declared.Function.{Function}
 use Rattle.cells.specs.declared.Function.the-variants.{Add, Subtract, Multiply, Divide, Equal, Less}
 use Rattle.cells.specs.declared.Axis.{Axis}
-use Rattle.cells.specs.declared.Axis.the-variants.{Child, Descendant, DescendantOrSelf, Itself, Parent, Ancestor, Following, Preceding}
+use Rattle.cells.specs.declared.Axis.the-variants.{Child, Descendant, DescendantOrSelf, Itself, Parent, Ancestor}
+use Rattle.cells.specs.declared.Axis.the-variants.{Following, Preceding}
 use Rattle.cells.specs.declared.Test.{Test}
 use Rattle.cells.specs.declared.Test.the-variants.{AnyNode, Element, Text, Named}
 use Rattle.laws.specs.Attempt.{Attempt, gives, attempt, provided}
 use Rattle.meaning.specs.Query.{functionOf, axisOf, testOf, fragmentOf}
-use Rattle.meaning.specs.Plan.{Op, RT, RA, RP, RU, RD, RS, RJ, RN, RF, RV, RC, RE, RK, RX, RO, markRT, markRA, markRP, markRU, markRD, markRS, markRJ, markRN, markRF, markRC, markRE, markRK, markRX, markRO, plainIn, columnsAt, sized, attachAt, projectAt, numberAt, functionAt, stepAt, operatorOf, operatorAt}
+use Rattle.meaning.specs.Plan.{Op, RT, RA, RP, RU, RD, RS, RJ, RN, RF, RV, RC, RE, RK, RX, RO, markRT, markRA, markRP}
+use Rattle.meaning.specs.Plan.{markRU, markRD, markRS, markRJ, markRN, markRF, markRC, markRE, markRK, markRX, markRO}
+use Rattle.meaning.specs.Plan.{plainIn, columnsAt, sized, attachAt, projectAt, numberAt, functionAt, stepAt, operatorOf}
+use Rattle.meaning.specs.Plan.{operatorAt}
 use Rattle.meaning.specs.Written.{functionNumber, axisNumber, testNumber, testName, operatorBytes}
 use Rattle.theorems.proofs.PlanWidths.{every-append}
 use Rattle.theorems.specs.PlanWidths.{Every}

@@ -16,11 +16,14 @@ use Rattle.cells.specs.declared.Axis.{Axis}
 use Rattle.cells.specs.declared.Test.{Test}
 use Rattle.laws.specs.Attempt.{Attempt, gives, attempt, provided}
 use Rattle.meaning.specs.Query.{Query, QL, QE, QR, QV, QS, QT, QF, QI, QO, QC, QD, QX}
-use Rattle.meaning.specs.Plan.{Op, RT, RA, RP, RU, RD, RS, RJ, RN, RF, RV, RC, RE, RK, RX, RO, plainIn, tableWidth, upTo6, columns, widthOf}
-use Rattle.meaning.specs.Translation.{Made, Tables, next, freeIn, othersIn, lifts, ruleL, ruleR, ruleE, tailS, headF, tailF, headI, tailO, tailC, tailD, tailX, then, tr, tailLast, plan}
+use Rattle.meaning.specs.Plan.{Op, RT, RA, RP, RU, RD, RS, RJ, RN, RF, RV, RC, RE, RK, RX, RO, plainIn, tableWidth}
+use Rattle.meaning.specs.Plan.{upTo6, columns, widthOf}
+use Rattle.meaning.specs.Translation.{Made, Tables, next, freeIn, othersIn, lifts, ruleL, ruleR, ruleE, tailS, headF}
+use Rattle.meaning.specs.Translation.{tailF, headI, tailO, tailC, tailD, tailX, then, tr, tailLast, plan}
 use Rattle.meaning.specs.Written.{testName}
 use Rattle.theorems.specs.Closed.{Closed}
-use Rattle.theorems.proofs.PlanWidths.{every-getD, every-append, or-true, attempt-gives, provided-gives, plan-widths}
+use Rattle.theorems.proofs.PlanWidths.{every-getD, every-append, or-true, attempt-gives, provided-gives}
+use Rattle.theorems.proofs.PlanWidths.{plan-widths}
 use Rattle.theorems.specs.PlanWidths.{Every, widths}
 use Rattle.laws.proofs.Booleans.{both-true}
 use Rattle.theorems.specs.PlanFields.{Own, Writable, Width, Fields, PlanSound}

@@ -1,12 +1,14 @@
 -- The written plan of an accepted query reads back (document 01, 'Query records' and 'Plan operators').
---     RecordFields r      the fields of a record that is read: a plain cell, fragment 1 to 255, variable 0 to 7, a two-byte name
+--     RecordFields r      the fields of a record that is read: a plain cell, fragment 1 to 255, variable 0 to 7, a
+--                         two-byte name
 --     query-accepted      a query that is read from bytes is accepted
 --     plan-back           a sound plan of at most 512 writable operators reads back as they stand
 --     query-plan-back     so is the plan of a query that is read from bytes, if it has at most 512 operators
 --     translated          where the translator gives n operators and m bytes, the first m lent bytes are that plan's
 use Prim.Native.Nat.{ℕ, zero, suc, _+_, _*_, _-_, _^_, _≤_, _<_}
 use mathlib.Core.Path.{_≡_, refl, sym, _∙_, ap, ap₂, subst}
-use mathlib.Core.List.{List, [], _∷_, _++_, map, append-nil, append-assoc, append-cancel-left, head-eq-of-cons-eq, tail-eq-of-cons-eq}
+use mathlib.Core.List.{List, [], _∷_, _++_, map, append-nil, append-assoc, append-cancel-left, head-eq-of-cons-eq}
+use mathlib.Core.List.{tail-eq-of-cons-eq}
 use mathlib.Core.Bool.{Bool, true, false, cond, _&&_}
 use native.Mathlib.Omega.{arith}
 use native.Mathlib.Nat.{zero-lt-suc}
@@ -19,9 +21,15 @@ use Rattle.cells.specs.Bytes.{byteAt, word, signed, int4, fits}
 use Rattle.cells.specs.Cell.{held, falseCell, trueCell}
 use Rattle.cells.specs.declared.Axis.{Axis}
 use Rattle.cells.specs.declared.Test.the-variants.{AnyNode, Element, Text, Named}
-use Rattle.laws.specs.Attempt.{Attempt, fails, gives, attempt, provided, Reading, refuses, reads, reading, refusing, unless}
-use Rattle.meaning.specs.Query.{Query, QL, QE, QR, QV, QS, QT, QF, QI, QO, QC, QD, QX, Record, literal, empty, root, variable, sequence, letting, for, choice, function, counting, values, step, markQL, markQB, markQE, markQR, markQV, markQS, markQT, markQF, markQI, markQO, markQC, markQD, markQX, functionOf, axisOf, testOf, variableOf, fragmentOf, booleanOf, sized, recordOf, recordAt, Read, Operand, bound, leaf, one, two, three, operands, read, queryRead}
-use Rattle.meaning.specs.Plan.{plainIn, Op, RT, RA, RP, RU, RD, RS, RJ, RN, RF, RV, RC, RE, RK, RX, RO, operatorAt, widthOf, Placed, placedAt, lastOf, ended, planFrom, planRead}
+use Rattle.laws.specs.Attempt.{Attempt, fails, gives, attempt, provided, Reading, refuses, reads, reading, refusing}
+use Rattle.laws.specs.Attempt.{unless}
+use Rattle.meaning.specs.Query.{Query, QL, QE, QR, QV, QS, QT, QF, QI, QO, QC, QD, QX, Record, literal, empty, root}
+use Rattle.meaning.specs.Query.{variable, sequence, letting, for, choice, function, counting, values, step, markQL}
+use Rattle.meaning.specs.Query.{markQB, markQE, markQR, markQV, markQS, markQT, markQF, markQI, markQO, markQC, markQD}
+use Rattle.meaning.specs.Query.{markQX, functionOf, axisOf, testOf, variableOf, fragmentOf, booleanOf, sized, recordOf}
+use Rattle.meaning.specs.Query.{recordAt, Read, Operand, bound, leaf, one, two, three, operands, read, queryRead}
+use Rattle.meaning.specs.Plan.{plainIn, Op, RT, RA, RP, RU, RD, RS, RJ, RN, RF, RV, RC, RE, RK, RX, RO, operatorAt}
+use Rattle.meaning.specs.Plan.{widthOf, Placed, placedAt, lastOf, ended, planFrom, planRead}
 use Rattle.meaning.specs.Translation.{plan}
 use Rattle.cells.specs.Bytes.{bytesOf}
 use Rattle.laws.specs.Lists.{gather}

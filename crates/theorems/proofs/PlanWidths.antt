@@ -18,8 +18,10 @@ use Rattle.cells.specs.declared.Axis.{Axis}
 use Rattle.cells.specs.declared.Test.{Test}
 use Rattle.laws.specs.Attempt.{Attempt, fails, gives, attempt, provided}
 use Rattle.meaning.specs.Query.{Query, QL, QE, QR, QV, QS, QT, QF, QI, QO, QC, QD, QX, free, bound}
-use Rattle.meaning.specs.Plan.{Op, RT, RA, RP, RU, RD, RS, RJ, RN, RF, RV, RC, RE, RK, RX, RO, tableWidth, upTo6, columns, widthOf}
-use Rattle.meaning.specs.Translation.{Made, Tables, next, hold, freeIn, othersIn, lifts, lifted, ruleL, ruleR, ruleE, tailS, headF, tailF, headI, tailO, tailC, tailD, tailX, then, tr, tailLast, plan}
+use Rattle.meaning.specs.Plan.{Op, RT, RA, RP, RU, RD, RS, RJ, RN, RF, RV, RC, RE, RK, RX, RO, tableWidth, upTo6}
+use Rattle.meaning.specs.Plan.{columns, widthOf}
+use Rattle.meaning.specs.Translation.{Made, Tables, next, hold, freeIn, othersIn, lifts, lifted, ruleL, ruleR, ruleE}
+use Rattle.meaning.specs.Translation.{tailS, headF, tailF, headI, tailO, tailC, tailD, tailX, then, tr, tailLast, plan}
 use Rattle.theorems.proofs.Closed.{free-bound}
 use Rattle.theorems.specs.Closed.{Closed}
 use Rattle.theorems.specs.PlanWidths.{Every, widths, TableWide, Fits, Ends, Steps, WellMade, Env}
@@ -132,7 +134,8 @@ module _ {ws : List ℕ} where
   fit-RJ {c} {d} h k p q = record { is = two (λ w v. provided (ltb c w && ltb d v) (upTo6 (w + v))) h k (rw (p, q)) }
 
   fit-RN :
-      {t p w : ℕ} {ks : List ℕ} → TableWide ws t w → (eqb p 255 || ltb p w) && columns w ks ≡ true → leb (w + 1) 6 ≡ true →
+      {t p w : ℕ} {ks : List ℕ} → TableWide ws t w → (eqb p 255 || ltb p w) && columns w ks ≡ true
+      → leb (w + 1) 6 ≡ true →
       Fits ws (RN t p ks) (w + 1)
   unfolding widthOf upTo6 provided
   fit-RN {p} {ks} h a b =
@@ -368,7 +371,8 @@ cond-wide true f g = f refl
 cond-wide false f g = g refl
 
 env-hold :
-    {ws : List ℕ} {t : ℕ} {e : Tables} {vs : List ℕ} (v : ℕ) → TableWide ws t 3 → Env ws e vs → Env ws (hold v t e) (v ∷ vs)
+    {ws : List ℕ} {t : ℕ} {e : Tables} {vs : List ℕ} (v : ℕ) → TableWide ws t 3 → Env ws e vs
+    → Env ws (hold v t e) (v ∷ vs)
 unfolding hold
 env-hold {vs} v ht h =
     record { at = λ u b. cond-wide (eqb u v) (λ p. ht) (λ p. h .at u (bound-inner u v vs p b)) }
@@ -394,7 +398,8 @@ module _
         (step ws e (fit-RJ (old ws e _ ht) (old ws e _ hm) q p) (step ws e (fit-RP (first ws e _ _) r refl) (end ws e)))
 
     lift :
-        (us : List ℕ) (ws : List ℕ) (n : ℕ) (e : Tables) → n ≡ length ws → Every (λ u. TableWide ws (e u) 3) us → TableWide ws m i →
+        (us : List ℕ) (ws : List ℕ) (n : ℕ) (e : Tables) → n ≡ length ws → Every (λ u. TableWide ws (e u) 3) us
+        → TableWide ws m i →
         Lifted ws e (lifts e m (a ∷ b ∷ c ∷ []) n us) (lifted e n us)
     unfolding lifts lifted Every hold
     lift [] ws n e en h hm = record { after = ws; ends = ends-none; held = λ u k. k }
@@ -406,7 +411,8 @@ module _
         record {
           after = rest .after;
           ends = ends-then one (rest .ends);
-          held = λ u k. cond-wide (eqb u v) (λ _. kept (rest .ends) (new ws en _ 1 tt)) (λ _. rest .held u (kept one k));
+          held =
+              λ u k. cond-wide (eqb u v) (λ _. kept (rest .ends) (new ws en _ 1 tt)) (λ _. rest .held u (kept one k));
         }
 
 -- the variables free in a part are lifted; those that are not lifted keep their tables
@@ -494,7 +500,8 @@ forTail b k l map f =
 
 sound-forTail :
     (b : Query) (vs ws : List ℕ) (k l map : ℕ) (f : Tables) → Keeps b →
-    Closed b vs → k ≡ length ws → TableWide ws l 1 → TableWide ws map 2 → Env ws f vs → WellMade ws (forTail b k l map f)
+    Closed b vs → k ≡ length ws → TableWide ws l 1 → TableWide ws map 2 → Env ws f vs
+    → WellMade ws (forTail b k l map f)
 unfolding next
 sound-forTail b vs ws k l map f hb c ek hl hm h =
     let y = hb vs ws k l f c ek hl h in
@@ -539,7 +546,8 @@ branch :
     let x = tr q (n + length os) l (lifted e n (freeIn q)) in
     (y : Made) →
     ((us : List ℕ) →
-    Ends ws (os ++ x .ops) us → n + length os + length (x .ops) ≡ length us → TableWide us (x .result) 3 → WellMade us y) →
+    Ends ws (os ++ x .ops) us → n + length os + length (x .ops) ≡ length us → TableWide us (x .result) 3
+    → WellMade us y) →
     WellMade ws (then os (then (x .ops) y))
 unfolding columns all
 branch q vs ws n l e hq c en hl h y go =

@@ -1,4 +1,5 @@
--- `rows_sound` meets its contract. The invariant of its loop: the rows before r passed, so that the checks from r on, of
+-- `rows_sound` meets its contract. The invariant of its loop: the rows before r passed, so that the checks from r on,
+-- of
 -- as many rows as may still be there, give what the whole gives. The measure is how many rows may still be there.
 use Prim.Native.Nat.{ℕ, _≤_, _+_, _*_, _-_}
 use native.Mathlib.Omega.{arith}

@@ -12,7 +12,8 @@ use mir.Facts.{toZ-ofZ}
 use Rattle.cells.specs.declared.Item.the-variants.{Integer, Node}
 use Rattle.cells.specs.declared.Held.the-variants as Held
 use Rattle.cells.specs.Cell.{inRange, held}
-use Rattle.cells.proofs.Holding.{range-mag, from-range, held-integer, held-below, from-here, held-stray, held-node}
+use Rattle.cells.proofs.Holding.{range-mag, from-range, held-integer, held-below, from-here, held-stray}
+use Rattle.cells.proofs.Holding.{held-node}
 use Rattle.cells.proofs.item_of.Statement.{statement}
 use Rattle.cells.proofs.item_of.Tie as tie
 
@@ -66,7 +67,8 @@ returns-4 : tie.Need-returns-4
 returns-4 c =
     let n = node c in
     let e = n .1 in
-    ap (λ (z : ℤ). Held.Item (Node (record { 0 = natAbs z - 0x2_0000_0000 }))) (back (c .before .before .before .before) ∙ e)
+    ap (λ (z : ℤ). Held.Item (Node (record { 0 = natAbs z - 0x2_0000_0000 })))
+    (back (c .before .before .before .before) ∙ e)
     ∙ sym (held-node _ (n .2)) ∙ ap held (sym e)
 
 returns-5 : tie.Need-returns-5
