@@ -17,6 +17,7 @@ from collections import Counter
 sys.dont_write_bytecode = True
 
 import at_bounds
+import bytes as tool
 import catalogue
 import chartask
 import evaluator
@@ -219,18 +220,12 @@ def at_bounds_given():
             yield query_bytes, doc
 
 
-# The examples, as a class would run them: query.xq over the XML files beside it.
-
-EXAMPLE = """xquery version "1.0"; declare base-uri "{folder}/";
-declare function local:told($x) {{
-  if ($x instance of node()) then concat("node ", count($x/ancestor::node()) + count($x/preceding::node()) - 1)
-  else concat("int ", $x) }};
-string-join(for $x in ({query}) return local:told($x), ", ")"""
-
+# The examples, as a class would run them: query.xq over catalogue.xml, as bytes.py prints them for other engines.
 
 def example_text(folder):
-    query_text = (folder / "query.xq").read_text()
-    return EXAMPLE.format(folder=folder.as_uri(), query=query_text).replace("\n", " ")
+    roots = tool.fragments_of((folder / "catalogue.xml").read_bytes())
+    query_text = tool.in_xquery((folder / "query.xq").read_bytes())
+    return PROLOG.format(roots=", ".join(roots), query=query_text).replace("\n", " ")
 
 
 def report_examples():

@@ -26,8 +26,8 @@ import typed
 from catalogue import ROW
 from cells import Refused
 
-# More than any sound query or catalogue needs; a longer file is not read.
-MOST_BYTES = 1000000
+# Many times what a sound query or catalogue needs; a longer file is not read.
+MOST_BYTES = 200000
 SHOWN = 76
 
 WHY = {1: "bad mark, field, cut record, or bytes after the query", 2: "129th record, or depth 33",
