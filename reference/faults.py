@@ -5,6 +5,7 @@ where it is not enough that a place or a plan's byte has changed: the engines mu
 and chartask print `same no`.
 """
 
+import struct
 from contextlib import contextmanager
 from typing import NamedTuple
 
@@ -59,7 +60,7 @@ def answer_now(case):
     """What the model answers now, or the error that it ends in."""
     try:
         return generate.CALLS[case.call](*case.given)
-    except (IndexError, KeyError, TypeError, ValueError) as error:
+    except (IndexError, KeyError, TypeError, ValueError, struct.error) as error:
         return type(error).__name__
 
 

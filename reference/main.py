@@ -1,4 +1,5 @@
-"""The model's one command: `python3 reference/main.py` checks it, `--faults` plants the faults."""
+"""The model's one command: `python3 reference/main.py` checks it, `--faults` plants the faults, `--texts` compares the
+two readers of typed queries and of sheets on all texts that some_texts.py knows and on many drawn ones."""
 
 import sys
 import time
@@ -6,22 +7,26 @@ import time
 sys.dont_write_bytecode = True
 
 import check
+import check_texts
 import faults
-import faults_in_engines  # each of the three notes its faults
+import faults_in_engines  # each of the four notes its faults
 import faults_in_meaning
 import faults_in_readers
+import faults_in_texts
 
 PAIRS = 20000
 DRAWN = 400
+SOME_TEXTS = 1500
+MANY_TEXTS = 50000
 SEED = 1
 
 
-def check_model():
+def checked(lines):
     """Prints a line for each check; says whether all hold."""
     try:
-        for line in check.report(PAIRS, DRAWN, SEED):
+        for line in lines:
             print(line, flush=True)
-    except check.Wrong as wrong:
+    except (check.Wrong, check_texts.Wrong) as wrong:
         print(f"WRONG: {wrong}")
         return False
     return True
@@ -36,10 +41,21 @@ def plant_faults():
     return all_caught
 
 
+def check_model():
+    """Document 01, then document 02's L1 and L9."""
+    return checked(check.report(PAIRS, DRAWN, SEED)) and checked(check_texts.report(SOME_TEXTS, SEED))
+
+
+def check_many_texts():
+    """Every text, of any length."""
+    return checked(check_texts.report(MANY_TEXTS, SEED, share=1, longest=None))
+
+
 def main(arguments):
     """The exit status: 0 if all is well."""
     began = time.monotonic()
-    well = plant_faults() if arguments == ["--faults"] else check_model()
+    ways = {"--faults": plant_faults, "--texts": check_many_texts}
+    well = ways.get(" ".join(arguments), check_model)()
     print(f"{'all is well' if well else 'NOT WELL'}, {time.monotonic() - began:.0f} s")
     return 0 if well else 1
 

@@ -175,12 +175,17 @@ def check_fits(length, lent):
         raise Refused(8, 0)
 
 
+def checked(rows, lent):
+    """4, then 8."""
+    check_rows(rows)
+    check_fits(ROW.size * len(rows), lent)
+
+
 def read_sheets(text, lent):
     """The public call: rows; 11, then 4, then 8."""
     try:
         rows = rows_of(text)
-        check_rows(rows)
-        check_fits(ROW.size * len(rows), lent)
+        checked(rows, lent)
     except Refused as refused:
         return Read(refused.number, refused.place, 0, bytes(emptied(lent)))
     doc = b"".join(ROW.pack(*row) for row in rows)

@@ -110,3 +110,8 @@ def rows_of(text):
     if ROW.size * len(shape) > 20480:
         raise Refused(4, 20480)
     return written(sized(shape))
+
+
+def without_spelled_out(text):
+    """The standard spelling: every `<n7></n7>` as `<n7/>`."""
+    return re.sub(rb"<n([0-9]+)></n\1>", rb"<n\1/>", text)

@@ -211,8 +211,9 @@ FUNCTIONS = {"+": 1, "-": 2, "*": 3, "idiv": 4, "eq": 5, "lt": 6}
 CALLS = {"count": b"QC", "data": b"QD"}
 BINDINGS = {"for": (b"QF", "in"), "let": (b"QT", ":=")}
 
-# How tightly an operator holds its operands; among equals the left one goes first.
+# How tightly an operator holds its operands, and the end of all of them.
 TIGHTNESS = {",": 0, "eq": 1, "lt": 1, "+": 2, "-": 2, "*": 3, "idiv": 3}
+LOOSEST = -1
 
 PRIMARIES = ("Integer", "Negative", "$", "true", "false", "(", "root", "count", "data")
 SINGLES = ("for", "let", "if")
@@ -257,9 +258,14 @@ def operation(word, a, b):
     return Part(own, word.at, (a, b))
 
 
+def goes_first(word, tightness):
+    """Whether an operator goes before one of that tightness to its right: also among equals, 'left grouping'."""
+    return TIGHTNESS[word.kind] >= tightness
+
+
 def gathered(waiting, part, tightness):
-    """The part as second operand of all that wait and hold at least that tightly."""
-    while waiting and TIGHTNESS[waiting[-1].word.kind] >= tightness:
+    """The part as second operand of all that wait and go first."""
+    while waiting and goes_first(waiting[-1].word, tightness):
         word, first = waiting.pop()
         part = operation(word, first, part)
     return part
@@ -382,13 +388,13 @@ class Reader:
         """Bodies and else-parts end with what ends the thing around them."""
         while self.opened[-1].kind in ("body", "else"):
             top = self.opened.pop()
-            part = top.whole(gathered(top.waiting, part, 0))
+            part = top.whole(gathered(top.waiting, part, LOOSEST))
         return part
 
     def close(self, part):
         """The innermost open thing ends: what it makes, or None where its next operand comes."""
         top = self.opened.pop()
-        part = gathered(top.waiting, part, 0)
+        part = gathered(top.waiting, part, LOOSEST)
         match top.kind:
             case "group":
                 self.groups -= 1
@@ -406,7 +412,7 @@ class Reader:
 
     def end_of(self, part):
         """The whole text's part."""
-        return gathered(self.opened[0].waiting, self.without_bodies(part), 0)
+        return gathered(self.opened[0].waiting, self.without_bodies(part), LOOSEST)
 
 
 # The reader.
@@ -442,12 +448,18 @@ def check_fits(length, lent):
         raise Refused(8, 0)
 
 
+def checked(query_bytes, lent):
+    """'refusals 2, 3 (places as in the records) and 8': the number of records."""
+    records = query.read_counted(query_bytes)[1]
+    check_fits(len(query_bytes), lent)
+    return records
+
+
 def read_text(text, lent):
-    """The public call: records and their bytes; '9 .., before refusals 2, 3 (places as in the records) and 8'."""
+    """The public call: records and their bytes; '9 for text outside the grammar, before refusals 2, 3 .. and 8'."""
     try:
         query_bytes = records_of(text)
-        records = query.read_counted(query_bytes)[1]
-        check_fits(len(query_bytes), lent)
+        records = checked(query_bytes, lent)
     except Refused as refused:
         return Read(refused.number, refused.place, 0, 0, bytes(emptied(lent)))
     return Read(0, 0, records, len(query_bytes), bytes(followed_by_zeros(query_bytes, lent)))
