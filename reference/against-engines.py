@@ -230,8 +230,8 @@ def example_text(folder):
 
 def report_examples():
     """How many of the examples that give items give the same ones from each engine."""
-    giving = [folder for folder in sorted((HERE.parent / "examples").iterdir()) if folder.is_dir()
-              and (folder / "expected").read_text().startswith("items")]
+    giving = [file.parent for file in sorted((HERE.parent / "examples").glob("*/expected"))
+              if file.read_text().startswith("items")]
     expected = [", ".join((folder / "expected").read_text().split("\n")[1:-2]) for folder in giving]
     for engine in ENGINES:
         told = answers(engine, list(map(example_text, giving)))

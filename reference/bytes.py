@@ -2,7 +2,7 @@
 
     python3 reference/bytes.py FOLDER             query.xq to query.bin, catalogue.xml to doc.bin
     python3 reference/bytes.py --text FOLDER      query.bin to query.xq, doc.bin to catalogue.xml
-    python3 reference/bytes.py --xquery FOLDER    prints query.xq over catalogue.xml as a program for other XQuery engines
+    python3 reference/bytes.py --xquery FOLDER    prints query.xq over catalogue.xml as a program for other engines
 
 query.xq is a typed query of document 02's L1, catalogue.xml sheets of L9: root elements one after another, none for
 an empty catalogue. A line break at the end of catalogue.xml belongs to the file and not to the sheets. A file that is
@@ -59,6 +59,8 @@ def why(refused, given):
 
 def in_text(text, at):
     """The line of the text that has this byte, as much as is readable, and a caret below the byte."""
+    if at == len(text):
+        at = len(text.rstrip())
     first = text.rfind(b"\n", 0, at) + 1
     end = text.find(b"\n", at)
     line = text[first:end if end >= 0 else len(text)]

@@ -7,6 +7,7 @@ import random
 from collections import Counter
 from itertools import islice
 
+import bytes as tool
 import catalogue
 import open_points
 import query
@@ -169,8 +170,38 @@ def check_round_trips(n, seed):
             f"{n} catalogues, {n} texts of the profile")
 
 
+# The command.
+
+def check_told(way, contents):
+    """Whatever a file holds, the command tells a line, or a refusal with a caret below the line that it shows."""
+    made = way(contents)
+    lines = made.told.split("\n")
+    hold(len(lines) in ((3, 4) if made.is_refused else (1,)), f"{contents!r}: {made.told}")
+    if not made.is_refused:
+        return False
+    hold(lines[2].strip() == "^" and len(lines[2]) <= len(lines[1]) + 2, f"{contents!r}: {made.told}")
+    if " refused 3 " in lines[0] and way is tool.query_to_bytes:
+        hold(lines[1][lines[2].index("^")] == "$", f"{contents!r}: {made.told}")
+    return True
+
+
+def check_command(n, seed):
+    """The four ways on files of every kind."""
+    rng = random.Random(f"command {seed}")
+    refused = 0
+    for _ in range(n):
+        junk = rng.randbytes(rng.randint(0, 60))
+        query_bytes = some_queries.drawn(rng, 12)
+        refused += check_told(tool.query_to_bytes, rng.choice((some_texts.any_text(rng), junk)))
+        refused += check_told(tool.sheets_to_bytes, rng.choice((some_texts.any_sheets(rng), junk)) + rng.choice((b"", b"\n")))
+        refused += check_told(tool.query_to_text, rng.choice((query_bytes, some_queries.damaged(rng, query_bytes), junk)))
+        refused += check_told(tool.sheets_to_text, rng.choice((some_catalogues.damaged(rng, 9), junk)))
+    return f"the command bytes.py: {4 * n} files, {refused} refused and shown"
+
+
 def report(n, seed, share=SHARE, longest=LONGEST):
     """Every check in turn; each gives a line."""
     yield check_open_points()
     yield from check_readers(n, seed, share, longest)
     yield check_round_trips(n, seed)
+    yield check_command(n // 5, seed)
