@@ -4,6 +4,8 @@ Typed queries are drawn from the grammar's table, with spaces wherever they may 
 not; and from drawn records, as the writer spells them.
 """
 
+from itertools import product
+
 import query
 import sheets
 import some_catalogues
@@ -169,7 +171,20 @@ def cut_everywhere():
             yield text[:end] + bytes([byte])
 
 
-FAMILIES = (long_texts, cut_everywhere, words_after_beginnings, pairs_of_words)
+def all_short(its_bytes, longest):
+    """Every text of these bytes up to that length."""
+    for length in range(longest + 1):
+        for text in product(its_bytes, repeat=length):
+            yield bytes(text)
+
+
+def short_texts():
+    """Every short text of some bytes, whatever it is."""
+    yield from all_short(b"1-(), *", 5)
+    yield from all_short(b"$a-0 ,+", 5)
+
+
+FAMILIES = (long_texts, cut_everywhere, words_after_beginnings, pairs_of_words, short_texts)
 
 
 # Sheets.
@@ -225,4 +240,9 @@ def long_sheets():
     yield b"<n1>" * 5000
 
 
-FAMILIES_OF_SHEETS = (long_sheets, every_next_byte)
+def short_sheets():
+    """Every short text of the bytes of tags and numbers."""
+    yield from all_short(b"<n1/>-", 6)
+
+
+FAMILIES_OF_SHEETS = (long_sheets, every_next_byte, short_sheets)
