@@ -225,7 +225,8 @@ def at_bounds_given():
 def example_text(folder):
     roots = tool.fragments_of((folder / "catalogue.xml").read_bytes())
     query_text = tool.in_xquery((folder / "query.xq").read_bytes())
-    return PROLOG.format(roots=", ".join(roots), query=query_text).replace("\n", " ")
+    program = PROLOG.format(roots=", ".join(roots), query=query_text)
+    return program.replace("declare variable", f"{tool.DATA}\ndeclare variable", 1).replace("\n", " ")
 
 
 def report_examples():

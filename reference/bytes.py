@@ -40,7 +40,7 @@ class Unreadable(Exception):
 
 
 class Made(NamedTuple):
-    """What became of a file: a line or three to tell, its new contents or None, whether it was refused."""
+    """What became of a file: lines to tell, its new contents or None, whether it was refused."""
     told: str
     contents: bytes
     is_refused: bool
@@ -92,8 +92,7 @@ def query_to_bytes(text):
         number = query.read_counted(records)[1]
     except Refused as refused:
         shown = in_text(text, typed.place_in_text(text, refused.place))
-        told = refusal("query.xq", refused, text, shown) + "\nquery.bin is written; chartask refuses it the same way"
-        return Made(told, records, True)
+        return Made(refusal("query.xq", refused, text, shown), records, True)
     return Made(f"query.bin: {number} records, {len(records)} bytes", records, False)
 
 
@@ -167,9 +166,12 @@ def convert(folder, ways):
         contents = contents_of(folder / source)
         if contents is None:
             continue
-        made.append(way(contents))
-        if made[-1].contents is not None:
-            write(folder / target, made[-1].contents)
+        one = way(contents)
+        if one.contents is not None:
+            write(folder / target, one.contents)
+            if one.is_refused:
+                one = one._replace(told=f"{one.told}\n{target} is written; chartask refuses it the same way")
+        made.append(one)
     if not made:
         raise Unreadable(f"there is neither {ways[0][0]} nor {ways[1][0]} in {folder}")
     return made
@@ -177,10 +179,10 @@ def convert(folder, ways):
 
 # Other engines.
 
-PROGRAM = """declare variable $roots := ({roots});
-declare function local:root($k) {{ $roots[$k] }};
-{query}
-"""
+ROOT = ("declare function local:root($k as xs:integer) { "
+        "if ($k le count($roots)) then $roots[$k] else error() };")
+DATA = ("declare function local:data($items) { for $x in $items return if ($x instance of text()) "
+        "then xs:integer(data($x)) else if ($x instance of node()) then error() else $x };")
 
 
 def fragments_of(text):
@@ -190,8 +192,8 @@ def fragments_of(text):
 
 
 def in_xquery(text):
-    """A typed query with `root`, which is not XQuery's, as a function of the program."""
-    return re.sub(r"\broot\b", "local:root", text.decode().strip())
+    """A typed query for other engines: `root` is not XQuery's, and a text's value would be no integer there."""
+    return re.sub(r"\b(root|data)\b", r"local:\1", text.decode().strip())
 
 
 def to_program(folder):
@@ -203,8 +205,8 @@ def to_program(folder):
     for made in (query_to_bytes(text), sheets_to_bytes(xml)):
         if made.is_refused:
             return made
-    program = PROGRAM.format(roots=", ".join(fragments_of(xml)), query=in_xquery(text))
-    return Made(program.rstrip("\n"), None, False)
+    roots = f"declare variable $roots := ({', '.join(fragments_of(xml))});"
+    return Made("\n".join((roots, ROOT, DATA, in_xquery(text))), None, False)
 
 
 def ways_of(arguments):

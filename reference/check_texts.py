@@ -9,6 +9,7 @@ from itertools import islice
 
 import bytes as tool
 import catalogue
+import chartask
 import open_points
 import query
 import sheets
@@ -176,13 +177,20 @@ def check_told(way, contents):
     """Whatever a file holds, the command tells a line, or a refusal with a caret below the line that it shows."""
     made = way(contents)
     lines = made.told.split("\n")
-    hold(len(lines) in ((3, 4) if made.is_refused else (1,)), f"{contents!r}: {made.told}")
+    hold(len(lines) == (3 if made.is_refused else 1), f"{contents!r}: {made.told}")
     if not made.is_refused:
         return False
     hold(lines[2].strip() == "^" and len(lines[2]) <= len(lines[1]) + 2, f"{contents!r}: {made.told}")
-    if " refused 3 " in lines[0] and way is tool.query_to_bytes:
-        hold(lines[1][lines[2].index("^")] == "$", f"{contents!r}: {made.told}")
+    if way is tool.query_to_bytes and made.contents is not None:
+        check_written(lines, made)
     return True
+
+
+def check_written(lines, made):
+    """A query that is refused 2 or 3, and written: chartask gives the same refusal; 3 is shown at its variable."""
+    refusal = lines[0].split(": ")[1]
+    hold(chartask.printed(b"", made.contents) == refusal + "\n", made.told)
+    hold(" 3 " not in refusal or lines[1][lines[2].index("^")] == "$", made.told)
 
 
 def check_command(n, seed):
