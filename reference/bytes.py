@@ -93,7 +93,7 @@ def query_to_bytes(text):
     except Refused as refused:
         shown = in_text(text, typed.place_in_text(text, refused.place))
         return Made(refusal("query.xq", refused, text, shown), records, True)
-    return Made(f"query.bin: {number} records, {len(records)} bytes", records, False)
+    return Made(f"query.bin: records {number}, bytes {len(records)}", records, False)
 
 
 def without_last_break(text):
@@ -111,7 +111,7 @@ def sheets_to_bytes(contents):
         at = sheets.place_in_text(text, refused.place) if refused.number == 4 else refused.place
         return Made(refusal("catalogue.xml", refused, text, in_text(text, at)), None, True)
     doc = b"".join(ROW.pack(*row) for row in rows)
-    return Made(f"doc.bin: {len(rows)} rows, {len(doc)} bytes", doc, False)
+    return Made(f"doc.bin: rows {len(rows)}, bytes {len(doc)}", doc, False)
 
 
 def query_to_text(query_bytes):
@@ -120,7 +120,7 @@ def query_to_text(query_bytes):
         text = typed.text_of(query.read(query_bytes)).encode() + b"\n"
     except Refused as refused:
         return Made(refusal("query.bin", refused, query_bytes, in_bytes(query_bytes, refused.place)), None, True)
-    return Made(f"query.xq: {len(text)} bytes", text, False)
+    return Made(f"query.xq: bytes {len(text)}", text, False)
 
 
 def sheets_to_text(doc):
@@ -129,7 +129,7 @@ def sheets_to_text(doc):
         text = sheets.text_of(sheets.sound_and_apart(doc)).encode()
     except Refused as refused:
         return Made(refusal("doc.bin", refused, doc, in_bytes(doc, refused.place)), None, True)
-    return Made(f"catalogue.xml: {len(text)} bytes", text, False)
+    return Made(f"catalogue.xml: bytes {len(text)}", text, False)
 
 
 TO_BYTES = (("query.xq", "query.bin", query_to_bytes), ("catalogue.xml", "doc.bin", sheets_to_bytes))
