@@ -159,6 +159,15 @@ def write(path, contents):
         raise Unreadable(f"{path} cannot be written: {error.strerror}") from error
 
 
+def fate_of(target, made):
+    """What a refusal leaves in the other file, on a line of its own."""
+    if not made.is_refused:
+        return ""
+    if made.contents is not None:
+        return f"\n{target.name} is written; chartask refuses it the same way"
+    return f"\n{target.name} stays as it was" if target.exists() else ""
+
+
 def convert(folder, ways):
     """Makes the files of the folder; gives what became of each that was there."""
     made = []
@@ -169,9 +178,7 @@ def convert(folder, ways):
         one = way(contents)
         if one.contents is not None:
             write(folder / target, one.contents)
-            if one.is_refused:
-                one = one._replace(told=f"{one.told}\n{target} is written; chartask refuses it the same way")
-        made.append(one)
+        made.append(one._replace(told=one.told + fate_of(folder / target, one)))
     if not made:
         raise Unreadable(f"there is neither {ways[0][0]} nor {ways[1][0]} in {folder}")
     return made
