@@ -237,7 +237,7 @@ def report_examples():
     for engine in ENGINES:
         told = answers(engine, list(map(example_text, giving)))
         same = sum(map(str.__eq__, told, expected))
-        yield f"{engine}: {same} of the {len(giving)} examples that give items give the same from their query.xq"
+        yield f"{engine}: {same} of the {len(giving)} examples that give items give the same"
 
 
 def report(n, seed):
