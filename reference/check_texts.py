@@ -20,6 +20,7 @@ import some_texts
 import typed
 import typed_by_table
 from cells import Refused
+from check import hold
 
 # In the self check one text in so many of each family is compared, none of them longer than this.
 SHARE = 60
@@ -27,16 +28,6 @@ LONGEST = 300
 
 # No query or catalogue drawn here needs more bytes for its text.
 MOST_TEXT = 2000
-
-
-class Wrong(Exception):
-    """Something that document 02 asks for does not hold."""
-
-
-def hold(holds, what):
-    """What must hold."""
-    if not holds:
-        raise Wrong(what)
 
 
 def bytes_of_rows(text):

@@ -1,5 +1,9 @@
-"""The model's one command: `python3 reference/main.py` checks it, `--faults` plants the faults, `--texts` compares the
-two readers of typed queries and of sheets on all texts that some_texts.py knows and on many drawn ones."""
+"""The model's one command.
+
+    python3 reference/main.py               checks the model
+    python3 reference/main.py --faults      plants the faults
+    python3 reference/main.py --texts       compares two readers of typed queries and of sheets on many texts
+"""
 
 import sys
 import time
@@ -26,7 +30,7 @@ def checked(lines):
     try:
         for line in lines:
             print(line, flush=True)
-    except (check.Wrong, check_texts.Wrong) as wrong:
+    except check.Wrong as wrong:
         print(f"WRONG: {wrong}")
         return False
     return True
@@ -52,10 +56,14 @@ def check_many_texts():
 
 
 def main(arguments):
-    """The exit status: 0 if all is well."""
+    """The exit status: 0 if all is well, 1 if not, 2 for a word that is no command."""
     began = time.monotonic()
-    ways = {"--faults": plant_faults, "--texts": check_many_texts}
-    well = ways.get(" ".join(arguments), check_model)()
+    ways = {"": check_model, "--faults": plant_faults, "--texts": check_many_texts}
+    way = ways.get(" ".join(arguments))
+    if not way:
+        print(__doc__)
+        return 2
+    well = way()
     print(f"{'all is well' if well else 'NOT WELL'}, {time.monotonic() - began:.0f} s")
     return 0 if well else 1
 
