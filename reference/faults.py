@@ -6,6 +6,7 @@ and chartask print `same no`. `shuffled` stands for the same cases, where charta
 stay and only a run whose rows somebody moves may end otherwise.
 """
 
+import struct
 from contextlib import contextmanager
 from typing import NamedTuple
 
@@ -66,7 +67,7 @@ def answer_now(case):
     """What the model answers now, or the error that it ends in."""
     try:
         return generate.CALLS[case.call](*case.given)
-    except (IndexError, KeyError, TypeError, ValueError) as error:
+    except (IndexError, KeyError, TypeError, ValueError, struct.error) as error:
         return type(error).__name__
 
 

@@ -3,6 +3,7 @@
     python3 reference/main.py               checks the model
     python3 reference/main.py --faults      plants the faults
     python3 reference/main.py --shuffled    runs every plan again with its rows moved
+    python3 reference/main.py --texts       compares two readers of typed queries and of sheets on many texts
 """
 
 import sys
@@ -11,15 +12,19 @@ import time
 sys.dont_write_bytecode = True
 
 import check
+import check_texts
 import faults
-import faults_in_engines  # each of the four notes its faults
+import faults_in_engines  # each of the five notes its faults
 import faults_in_meaning
 import faults_in_order
 import faults_in_readers
+import faults_in_texts
 
 PAIRS = 20000
 MOVED = 24000  # about half of them have a table of two rows or more
 DRAWN = 400
+SOME_TEXTS = 1500
+MANY_TEXTS = 50000
 SEED = 1
 
 
@@ -28,7 +33,7 @@ def checked(lines):
     try:
         for line in lines:
             print(line, flush=True)
-    except check.Wrong as wrong:
+    except (check.Wrong, check_texts.Wrong) as wrong:
         print(f"WRONG: {wrong}")
         return False
     return True
@@ -44,8 +49,13 @@ def plant_faults():
 
 
 def check_model():
-    """All but what `--shuffled` adds."""
-    return checked(check.report(PAIRS, DRAWN, SEED))
+    """Document 01, then document 02's L1 and L9."""
+    return checked(check.report(PAIRS, DRAWN, SEED)) and checked(check_texts.report(SOME_TEXTS, SEED))
+
+
+def check_many_texts():
+    """Every text, of any length."""
+    return checked(check_texts.report(MANY_TEXTS, SEED, share=1, longest=None))
 
 
 def check_moved():
@@ -56,7 +66,7 @@ def check_moved():
 def main(arguments):
     """The exit status: 0 if all is well, 1 if not, 2 for a word that is no command."""
     began = time.monotonic()
-    ways = {"": check_model, "--faults": plant_faults, "--shuffled": check_moved}
+    ways = {"": check_model, "--faults": plant_faults, "--shuffled": check_moved, "--texts": check_many_texts}
     way = ways.get(" ".join(arguments))
     if not way:
         print(__doc__)
