@@ -33,7 +33,7 @@ def checked(lines):
     try:
         for line in lines:
             print(line, flush=True)
-    except (check.Wrong, check_texts.Wrong) as wrong:
+    except check.Wrong as wrong:
         print(f"WRONG: {wrong}")
         return False
     return True
