@@ -1,5 +1,5 @@
--- The functions that operators are made of, against a mapping of every member: where two functions correspond through a
--- mapping, so do what they make of the members and of their images.
+-- The functions that operators are made of, against a mapping of every member: where two functions correspond through
+-- a mapping, so do what they make of the members and of their images.
 --     or-left, or-right           one of two that hold
 --     mapped, mapped-once         two mappings, one after another
 --     filter-through, any-through, count-through, firsts-through, gather-through      the functions on lists

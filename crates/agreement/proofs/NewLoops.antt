@@ -1,5 +1,6 @@
 -- QF, before its body: every row of a gets a number of its own, which is a new iteration.
 --     looked n t           the row with number n
+--     map-rises            the map's inner iterations rise
 --     numbers-once         each number stands once, beside the row that `looked` finds
 --     newMask, newEnv      the new iterations, and what the variables hold in them
 --     loops-new            the new loop holds each of them once
@@ -18,7 +19,7 @@ use borrow.Author.Tests.{eq-eqb}
 use Rattle.laws.specs.Lists.{filter}
 use Rattle.laws.specs.Sorting.{sort}
 use Rattle.laws.specs.Keyed.{Key, risingBy, within, counted, joined}
-use Rattle.laws.proofs.Lists.{All, all-any, all-kept}
+use Rattle.laws.proofs.Lists.{All, all-any, all-kept, rising-mapped}
 use Rattle.laws.proofs.Filters.{In, all-of, in-filter, filter-map, filter-same}
 use Rattle.laws.proofs.Booleans.{by-cases}
 use Rattle.laws.proofs.Filters.{all-unmapped}
@@ -70,9 +71,15 @@ looked n t = front (within numberOf n t)
 pub newMask : List (Triple × ℕ) → Mask
 newMask t n = filled (within numberOf n t)
 
-pub numbers-rise : (a : List Triple) → Sorted (λ x y. leb (numberOf x) (numberOf y)) (allInOrder a)
+numbers-rise : (a : List Triple) → Sorted (λ x y. leb (numberOf x) (numberOf y)) (allInOrder a)
 numbers-rise a =
     subst (Sorted (λ x y. leb (numberOf x) (numberOf y))) (sym (in-turn a)) (inTurn-rises 0 (sort (risingBy keys) a))
+
+pub map-rises : (a : List Triple) → Sorted (λ (x y : ℕ × ℕ). leb (x .1) (y .1)) (mapOf (allInOrder a))
+unfolding mapOf
+map-rises a =
+    rising-mapped (λ (x y : ℕ × ℕ). leb (y .1) (x .1) ≡ false) (λ r. (r .0 .iter, r .1)) (allInOrder a)
+    (numbers-rise a)
 
 pub numbers-once : (a : List Triple) (n : ℕ)
     → within numberOf n (allInOrder a) ≡ cond (newMask (allInOrder a) n) ((looked n (allInOrder a), n) ∷ []) []

@@ -1,6 +1,6 @@
 -- Operators that work once for each iteration that has rows (RE, RX).
---     Worked s d h run       run is a table with the rows that h makes for each iteration that has items, or h fails in
---                            one of these and run fails
+--     Worked s d h run       run is a table with the rows that h makes for each iteration that has items, or h fails
+--                            in one of these and run fails
 --     worked                 `each` over a table's iterations is one of the two
 use Prim.Native.Nat.{ℕ}
 use mathlib.Core.Path.{_≡_, refl, ap, _∙_, subst}

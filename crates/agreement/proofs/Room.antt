@@ -162,7 +162,8 @@ evaluate-exact w room e (QF at v a b) =
 evaluate-exact w room e (QI at c a b) =
     exact-work _ (evaluate-exact w room e c) (evaluate-like w room e c)
     (λ s d. exact-trying at (w .truth (s .items))
-    (λ t _. exact-then (exact-either t (evaluate-exact w room e a) (evaluate-exact w room e b)) (λ u. exact-stand _ _)))
+    (λ t _. exact-then (exact-either t (evaluate-exact w room e a) (evaluate-exact w room e b))
+    (λ u. exact-stand _ _)))
 evaluate-exact w room e (QO at f a b) =
     exact-work _ (evaluate-exact w room e a) (evaluate-like w room e a)
     (λ s d. exact-then

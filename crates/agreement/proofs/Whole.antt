@@ -1,4 +1,5 @@
 -- The whole plan and the whole query: under the first loop table and with no variable bound, after the last numbering.
+--     first, loops-first, holds-nothing     the first loop's iterations, and what the variables hold in them
 --     represents-last          the last numbering leaves places as they are
 --     only-first               a table of iteration 1 alone is the rows of iteration 1
 --     same-items               both fail, or the plan's table has exactly the query's items in order
@@ -29,14 +30,14 @@ use Rattle.agreement.proofs.NewLoops.{sort-rows}
 use Rattle.agreement.proofs.Theorem.{agreement}
 
 -- the first loop has iteration 1 alone
-first : Mask
+pub first : Mask
 first i = eqb i 1
 
-loops-first : Loops (1 ∷ []) first
+pub loops-first : Loops (1 ∷ []) first
 unfolding first filter
 loops-first i = by-cases (eqb i 1) (λ e. rw e (ap (λ (j : ℕ). j ∷ []) (sym (eqb-true i 1 e)))) (λ e. rw e)
 
-holds-nothing : Holds first (λ i v. []) (λ v. [])
+pub holds-nothing : Holds first (λ i v. []) (λ v. [])
 unfolding within filter placed
 holds-nothing v i = by-cases (first i) (λ e. rw e) (λ e. rw e)
 
