@@ -1,5 +1,6 @@
 -- QI: a condition, then one of two branches.
 --     kept-at                  a variable's table kept to a loop
+--     items-placed             the items of placed rows by rising place
 --     others                   the iterations of m that a decision d does not take
 --     union                    two runs, one on each part, laid one after the other
 --     branch                   the two branches, for any decision on the iterations of the loop
@@ -127,7 +128,7 @@ place-later : (i : ℕ) (x y : Triple) → x .iter ≡ i → y .iter ≡ i → x
     → risingBy (byNumber placeOf ∷ []) y x ≡ false
 place-later i x y a b h = later-last _ y x (before-le (y .place) (x .place) (omega arith))
 
-items-placed : (i : ℕ) (xs : List ℤ) → itemsInOrder (placed i 0 xs) ≡ xs
+pub items-placed : (i : ℕ) (xs : List ℤ) → itemsInOrder (placed i 0 xs) ≡ xs
 unfolding itemsInOrder
 items-placed i xs =
     ap (map itemOf) (sort-placed (risingBy (byNumber placeOf ∷ [])) i (place-later i) xs) ∙ map-placed i 0 xs
@@ -244,7 +245,8 @@ pub record Parted (m : Mask) (ρ : ℕ → Env) (l n : Loop) (vars : Vars) : Typ
   pub rest-holds : Holds rest ρ (λ u. keptIn (without l n) (vars u))
 
 pub parted : (w : World) → Lawful w → {m : Mask} {c : List Triple} (h : Shown m c) (ρ : ℕ → Env) (l : Loop)
-    (vars : Vars) → Loops l m → Holds m ρ vars → (ds : List (ℕ × Bool)) → truthsOf w c ≡ gives ds → Parted m ρ l (thenLoop ds) vars
+    (vars : Vars) → Loops l m → Holds m ρ vars → (ds : List (ℕ × Bool)) → truthsOf w c ≡ gives ds
+    → Parted m ρ l (thenLoop ds) vars
 parted w lawful {m} {c} h ρ l vars loops holds ds d =
     let chosen = decision w lawful m c (h .family) (h .outside) (h .rows) in
     let sub = inside w lawful m c (h .family) (h .outside) (h .rows) in

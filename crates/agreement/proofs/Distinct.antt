@@ -2,34 +2,35 @@
 --     Shown m t                table t represents a family of the iterations of m
 --     represented              what a run that agrees gives
 --     distinct-rows            rows of an expression: an iteration has one row at a place
+--     distinct-places          .. and rows of one iteration, by place alone
 --     distinct-sides           QS: .. on each side, and the mark tells the sides apart
 --     distinct-outer           QF: .. of the body, and each row is joined with at most one row of the map
 --     distinct-nodes           QX: the nodes of an iteration rise
 use Prim.Native.Nat.{ℕ, suc, _<_}
 use native.Mathlib.Omega.{arith}
-use mathlib.Core.Path.{_≡_, refl, sym, ap, _∙_, subst}
+use mathlib.Core.Path.{_≡_, sym, _∙_, subst}
 use mathlib.Core.List.{List, [], _∷_, map}
 use mathlib.Core.Bool.{Bool, true, false, _&&_, and-false, false≢true}
 use lib.Dec.{eqb, leb}
 use lib.IntN.{ℤ, pos}
-use borrow.Author.Tests.{eqb-true, ne-eqb}
+use borrow.Author.Tests.{ne-eqb}
 use Rattle.cells.specs.Cell.{same}
 use Rattle.laws.specs.Lists.{gather}
 use Rattle.laws.specs.Keyed.{within, joined}
-use Rattle.laws.specs.Attempt.{Attempt, fails, gives}
+use Rattle.laws.specs.Attempt.{Attempt, gives}
 use Rattle.laws.proofs.Booleans.{both-true}
-use Rattle.laws.proofs.Lists.{All, Rising, all-any, all-map, all-mapped, rising-map, rising-mapped}
+use Rattle.laws.proofs.Lists.{Rising, all-any, all-mapped}
 use Rattle.laws.proofs.Filters.{gather-each}
 use Rattle.laws.proofs.Sorting.{Sorted}
 use Rattle.laws.proofs.Outcomes.{fails-gives, gives-same}
 use Rattle.laws.proofs.Numbering.{AtMostOne, absent, present, rising-once}
 use Rattle.laws.proofs.Joins.{joined-at, gather-none}
 use Rattle.theorems.proofs.Nodes.{Before}
-use Rattle.agreement.specs.Typed.{Triple, row, iterOf, placeOf, sides, outerOf}
+use Rattle.agreement.specs.Typed.{Triple, iterOf, sides, outerOf}
 use Rattle.agreement.specs.Families.{Family, Mask, placed, Represents, Outside, Agree, agrees, failing}
 use Rattle.agreement.specs.Encoded.{encode, encodeNumber, encodePair, encodeNumbers, encodeItem}
 use Rattle.agreement.specs.Tieless.{alike, Untied, Distinct}
-use Rattle.agreement.proofs.Keys.{same-before}
+use Rattle.cells.proofs.Cells.{before-other}
 use Rattle.agreement.proofs.Tables.{placed-behind}
 use Rattle.agreement.proofs.Untied.{untied-mapped, untied-less, untied-append, untied-rising, untied-parts}
 
@@ -99,6 +100,12 @@ distinct-rows {t} h =
     untied-parts sameRows iterOf sameRows-iter t
     (λ i. subst (Untied sameRows) (sym (rep i))
     (untied-rising Later sameRows sameRows-apart (placed i 0 (s i)) (placed-rise i 0 (s i))))
+
+-- rows of one iteration, by place alone
+pub distinct-places : (i : ℕ) (zs : List ℤ) → Untied (alike (1 ∷ [])) (map encode (placed i 0 zs))
+unfolding alike
+distinct-places i zs =
+    untied-placed encode (alike (1 ∷ [])) (λ r s h. rw (other-place (r .place) (s .place) h)) i zs
 
 -- QS
 
@@ -176,7 +183,7 @@ nodes-iter x y e = same-number (x .0) (y .0) (both-true (same (pos (x .0)) (pos 
 
 nodes-apart : (i : ℕ) (y z : ℤ) → Before y z → sameNodes (i, y) (i, z) ≡ false
 unfolding alike
-nodes-apart i y z h = rw (same-before y z h) (and-false (same (pos i) (pos i)))
+nodes-apart i y z h = rw (before-other y z h) (and-false (same (pos i) (pos i)))
 
 pub distinct-nodes : (t : List (ℕ × ℤ)) (nodes : ℕ → List ℤ)
     → ((i : ℕ) → within (λ r. r .0) i t ≡ map (λ y. (i, y)) (nodes i)) → ((i : ℕ) → Rising Before (nodes i))

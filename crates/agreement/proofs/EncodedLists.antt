@@ -7,11 +7,10 @@
 --     each-through                    members that may fail
 use mathlib.Core.Path.{_≡_, refl, sym, ap, ap₂, _∙_}
 use mathlib.Core.List.{List, [], _∷_, _++_, map}
-use mathlib.Core.Bool.{Bool, true, false, not, cond, _||_}
+use mathlib.Core.Bool.{Bool, true, false, not, cond}
 use Rattle.laws.specs.Lists.{filter, any, count, gather, firsts}
 use Rattle.laws.specs.Sorting.{insert, sort}
 use Rattle.laws.specs.Attempt.{Attempt, fails, gives, attempt, each}
-use Rattle.laws.proofs.Booleans.{or-left, or-right}
 
 -- one of two that hold
 module _ {A B : Type 0} (f : A → B) where

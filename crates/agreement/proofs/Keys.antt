@@ -3,12 +3,11 @@
 --     later, later-last        a row does not stand before another if it does not in the first key, nor in the others
 --     later-apart              .. nor if the first key alone tells them apart
 --     before-le, same-lt       numbers as cells
---     same-before              a cell that stands before another is another
 use Prim.Native.Nat.{ℕ, _≤_, _<_}
 use native.Mathlib.Omega.{arith}
 use mathlib.Core.Path.{_≡_, refl, _∙_}
 use mathlib.Core.List.{List, [], _∷_}
-use mathlib.Core.Bool.{true, false, not, _&&_, and-false, and-comm}
+use mathlib.Core.Bool.{false, not, _&&_, and-false, and-comm}
 use lib.Dec.{ltb, eqb}
 use lib.IntN.{ℤ, pos, negsuc}
 use borrow.Author.Tests.{ltb-true, ltb-false, le-ltb, eq-eqb, ne-eqb}
@@ -47,9 +46,6 @@ ties (pos a) (pos b) = ltb-ties a b
 ties (pos a) (negsuc b) = refl
 ties (negsuc a) (pos b) = refl
 ties (negsuc a) (negsuc b) = ltb-ties a b ∙ and-comm (not (ltb a b)) (not (ltb b a))
-
-pub same-before : (a b : ℤ) → before a b ≡ true → same a b ≡ false
-same-before a b e = ties a b ∙ rw e
 
 module _ {A : Type 0} where
   pub byCell-lawful : (c : A → ℤ) → LawfulKey (byCell c)

@@ -24,7 +24,7 @@ use Rattle.meaning.specs.Meaning.{Env, bind}
 use Rattle.theorems.proofs.Closed.{Closed, free-bound}
 use Rattle.theorems.proofs.Nodes.{Lawful}
 use Rattle.agreement.specs.Typed.{Triple, Loop, Vars, holding, sem, semPlan}
-use Rattle.agreement.specs.Encoded.{encodeNumber, HasRows, HasLoop}
+use Rattle.agreement.specs.Encoded.{encodeNumber, HasRows}
 use Rattle.agreement.specs.Families.{Mask, Loops, Holds}
 use Rattle.agreement.specs.Tieless.{Tieless}
 use Rattle.agreement.specs.Machine.{Simulates, HasFree, Faithful, Ends}

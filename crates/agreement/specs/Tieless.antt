@@ -1,5 +1,5 @@
--- Operators that never have to choose between two rows by how they stand. RN puts rows in order by its columns, RE looks
--- at iteration and place; where no two rows are equal in these, it is one and the same whichever row stood first.
+-- Operators that never have to choose between two rows by how they stand. RN puts rows in order by its columns, RE
+-- looks at iteration and place; where no two rows are equal in these, it is the same whichever row stood first.
 --     alike cs r s          rows r and s are equal in every column of cs
 --     Untied same xs        no two members of xs are the same
 --     Distinct cs f rows    no two typed rows are equal in the columns cs, each as the row of cells that f says
