@@ -5,6 +5,7 @@
 --     still, still-run     the hand that moves nothing is a hand; its run is the plain run
 --     unmarked, keyless, judged     three plans
 --     lean                 what the plain run of each gives, and what the run with one table turned round gives
+--     read-by-place        the items of a translated plan are one list by rising place, and not as the last table stands
 use Prim.Native.Nat.{ℕ, _+_}
 use mathlib.Core.Path.{_≡_, refl, ap, fun-ext}
 use mathlib.Core.List.{List, [], _∷_, _++_, reverse, Permᴰ·refl, Permᴰ·symm, Permᴰ·reverse}
@@ -13,12 +14,15 @@ use lib.Dec.{eqb, leb}
 use lib.IntN.{pos}
 use lib.ListN.{length}
 use Rattle.cells.specs.Cell.{trueCell}
-use Rattle.laws.specs.Attempt.{Reading, refuses, reads, trying, within}
+use Rattle.laws.specs.Attempt.{Reading, refuses, reads, Work, full, failed, done, trying, within}
 use Rattle.meaning.specs.Catalogue.{Catalogue, catalogueRead}
 use Rattle.meaning.specs.World.{World, worldOf}
 use Rattle.meaning.specs.Plan.{Op, RT, RA, RP, RU, RJ, RN, RE, RO, Placed, planRead}
-use Rattle.meaning.specs.Operators.{Table, make}
-use Rattle.meaning.specs.Run.{cells, Hand, running, runningBy, turning}
+use Rattle.meaning.specs.Query.{Query, QL, QS}
+use Rattle.meaning.specs.Operators.{Table, column, make}
+use Rattle.meaning.specs.Run.{cells, Filled, Hand, running, runningBy, turning}
+use Rattle.meaning.specs.Translation.{plan}
+use Rattle.meaning.specs.Calls.{lastTable}
 use Rattle.meaning.specs.Written.{written}
 use Rattle.meaning.proofs.Examples.{Told, items, refusal, told, harbours}
 use Rattle.meaning.proofs.TurnedRuns.{itemsOrRefusal}
@@ -121,3 +125,26 @@ record Lean : Type 0 where
 lean : Lean
 unfolding told harbours both runs unmarked keyless judged itemsOrRefusal runningBy turning
 lean = record { united = refl; returned = refl; decided = refl }
+
+-- The plan of (1, 2), its last table turned round, read by rising place and as it stands
+
+pair : Query
+pair = QS 0 (QL 0 (pos 1)) (QL 0 (pos 2))
+
+columnOrRefusal : Work Filled → Told
+columnOrRefusal (full p) = refusal 6
+columnOrRefusal (failed p) = refusal 7
+columnOrRefusal (done f) = items (column (lastTable (f .tables)) 2)
+
+readings : Reading (List Placed) → Reading Catalogue → List Told
+readings (refuses n p) c = []
+readings (reads ps) (refuses n p) = []
+readings (reads ps) (reads c) =
+    let by = runningBy (turning 11) (worldOf c) 4000 ps [] 0 in
+    itemsOrRefusal by ∷ columnOrRefusal by ∷ []
+
+read-by-place :
+    readings (planRead (written (plan pair))) (catalogueRead harbours)
+    ≡ items (pos 1 ∷ pos 2 ∷ []) ∷ items (pos 2 ∷ pos 1 ∷ []) ∷ []
+unfolding told harbours pair readings itemsOrRefusal columnOrRefusal runningBy turning
+read-by-place = refl

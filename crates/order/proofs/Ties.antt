@@ -1,4 +1,4 @@
--- Rows that no two columns' ties leave open have one order by these columns, however they stand.
+-- Rows of which no two are equal in the columns of a sort have one order by these columns, however they stand.
 --     byColumn c           column c of a row of cells as a key
 --     tied-alike           rows that the sort would leave as they stand are equal in its columns
 --     short-class          where no two members are equal, at most one passes a test that passes equal members alone
