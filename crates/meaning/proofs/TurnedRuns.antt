@@ -20,7 +20,7 @@ use Rattle.meaning.specs.Calls.{lastTable}
 use Rattle.meaning.proofs.Examples.{Told, items, refusal, told, planBytes, nested, nestedItems, longitudes}
 use Rattle.meaning.proofs.Examples.{harbours}
 
-unfoldable pub itemsOrRefusal : Work Filled → Told
+itemsOrRefusal : Work Filled → Told
 itemsOrRefusal (full p) = refusal 6
 itemsOrRefusal (failed p) = refusal 7
 itemsOrRefusal (done f) = items (itemsInOrder (lastTable (f .tables)))

@@ -11,21 +11,20 @@ use mathlib.Core.Path.{_≡_, refl, ap, fun-ext}
 use mathlib.Core.List.{List, [], _∷_, _++_, reverse, Permᴰ·refl, Permᴰ·symm, Permᴰ·reverse}
 use mathlib.Core.Bool.{Bool, true, false, cond}
 use lib.Dec.{eqb, leb}
-use lib.IntN.{pos}
+use lib.IntN.{ℤ, pos}
 use lib.ListN.{length}
 use Rattle.cells.specs.Cell.{trueCell}
-use Rattle.laws.specs.Attempt.{Reading, refuses, reads, Work, full, failed, done, trying, within}
-use Rattle.meaning.specs.Catalogue.{Catalogue, catalogueRead}
+use Rattle.laws.specs.Attempt.{Reading, reads, reading, Work, failed, done, work, trying, within}
+use Rattle.meaning.specs.Catalogue.{catalogueRead}
 use Rattle.meaning.specs.World.{World, worldOf}
 use Rattle.meaning.specs.Plan.{Op, RT, RA, RP, RU, RJ, RN, RE, RO, Placed, planRead}
 use Rattle.meaning.specs.Query.{Query, QL, QS}
-use Rattle.meaning.specs.Operators.{Table, column, make}
-use Rattle.meaning.specs.Run.{cells, Filled, Hand, running, runningBy, turning}
+use Rattle.meaning.specs.Operators.{Table, column, itemsInOrder, make}
+use Rattle.meaning.specs.Run.{cells, Hand, running, runningBy, turning}
 use Rattle.meaning.specs.Translation.{plan}
 use Rattle.meaning.specs.Calls.{lastTable}
 use Rattle.meaning.specs.Written.{written}
-use Rattle.meaning.proofs.Examples.{Told, items, refusal, told, harbours}
-use Rattle.meaning.proofs.TurnedRuns.{itemsOrRefusal}
+use Rattle.meaning.proofs.Examples.{told}
 use Rattle.order.specs.Shuffled.{Permuted, Shuffles}
 
 -- Hands
@@ -106,45 +105,46 @@ judged =
     ∷ RP 6 (0 ∷ 2 ∷ 1 ∷ [])
     ∷ []
 
--- a plan's bytes, read and run by a hand on chartask's catalogue
-runs : Reading (List Placed) → Reading Catalogue → Hand → List Told
-runs (refuses n p) c hand = []
-runs (reads ps) (refuses n p) hand = []
-runs (reads ps) (reads c) hand =
-    itemsOrRefusal (running (worldOf c) 4000 ps [] 0) ∷ itemsOrRefusal (runningBy hand (worldOf c) 4000 ps [] 0) ∷ []
+-- a catalogue of one row
+oneRoot : List ℕ
+oneRoot = 0x44 ∷ 0x4E ∷ 0 ∷ 0 ∷ 0 ∷ 1 ∷ 0 ∷ 0 ∷ 0 ∷ 1 ∷ []
 
--- the plain run, then the run with table k turned round
-both : List Op → ℕ → List Told
-both os k = runs (planRead (written os)) (catalogueRead harbours) (turning k)
+-- a plan's bytes, read and run by a hand on that catalogue; then the last table, read in some way
+ran : Hand → (Table → List ℤ) → List Op → Reading (Work (List ℤ))
+ran hand look os =
+    reading (planRead (written os))
+    (λ ps. reading (catalogueRead oneRoot)
+    (λ c. reads (work (runningBy hand (worldOf c) 4000 ps [] 0) (λ f. done (look (lastTable (f .tables)))))))
 
 record Lean : Type 0 where
-  united : both unmarked 5 ≡ items (pos 1 ∷ pos 2 ∷ []) ∷ items (pos 2 ∷ pos 1 ∷ []) ∷ []
-  returned : both keyless 15 ≡ items (pos 1 ∷ pos 2 ∷ []) ∷ items (pos 2 ∷ pos 1 ∷ []) ∷ []
-  decided : both judged 4 ≡ items (trueCell ∷ []) ∷ refusal 7 ∷ []
+  united : ran still itemsInOrder unmarked ≡ reads (done (pos 1 ∷ pos 2 ∷ []))
+  united-turned : ran (turning 5) itemsInOrder unmarked ≡ reads (done (pos 2 ∷ pos 1 ∷ []))
+  returned : ran still itemsInOrder keyless ≡ reads (done (pos 1 ∷ pos 2 ∷ []))
+  returned-turned : ran (turning 15) itemsInOrder keyless ≡ reads (done (pos 2 ∷ pos 1 ∷ []))
+  decided : ran still itemsInOrder judged ≡ reads (done (trueCell ∷ []))
+  decided-turned : ran (turning 4) itemsInOrder judged ≡ reads (failed 37)
 
 lean : Lean
-unfolding told harbours both runs unmarked keyless judged itemsOrRefusal runningBy turning
-lean = record { united = refl; returned = refl; decided = refl }
+unfolding told ran oneRoot unmarked keyless judged runningBy turning
+lean =
+    record {
+      united = refl;
+      united-turned = refl;
+      returned = refl;
+      returned-turned = refl;
+      decided = refl;
+      decided-turned = refl;
+    }
 
--- The plan of (1, 2), its last table turned round, read by rising place and as it stands
+-- The plan of (1, 2), its last table turned round
 
 pair : Query
 pair = QS 0 (QL 0 (pos 1)) (QL 0 (pos 2))
 
-columnOrRefusal : Work Filled → Told
-columnOrRefusal (full p) = refusal 6
-columnOrRefusal (failed p) = refusal 7
-columnOrRefusal (done f) = items (column (lastTable (f .tables)) 2)
+record ByPlace : Type 0 where
+  by-place : ran (turning 11) itemsInOrder (plan pair) ≡ reads (done (pos 1 ∷ pos 2 ∷ []))
+  as-it-stands : ran (turning 11) (λ t. column t 2) (plan pair) ≡ reads (done (pos 2 ∷ pos 1 ∷ []))
 
-readings : Reading (List Placed) → Reading Catalogue → List Told
-readings (refuses n p) c = []
-readings (reads ps) (refuses n p) = []
-readings (reads ps) (reads c) =
-    let by = runningBy (turning 11) (worldOf c) 4000 ps [] 0 in
-    itemsOrRefusal by ∷ columnOrRefusal by ∷ []
-
-read-by-place :
-    readings (planRead (written (plan pair))) (catalogueRead harbours)
-    ≡ items (pos 1 ∷ pos 2 ∷ []) ∷ items (pos 2 ∷ pos 1 ∷ []) ∷ []
-unfolding told harbours pair readings itemsOrRefusal columnOrRefusal runningBy turning
-read-by-place = refl
+read-by-place : ByPlace
+unfolding told ran oneRoot pair runningBy turning
+read-by-place = record { by-place = refl; as-it-stands = refl }
