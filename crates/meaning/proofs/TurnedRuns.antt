@@ -1,5 +1,6 @@
 -- Runs in which one table is turned round, for each table of a plan in turn. The items by rising place of the last
--- table stay what they are: no rule leans on how the rows of a table stand. (Of every query and every hand: crates/order.)
+-- table stay what they are: no rule leans on how the rows of a table stand. crates/order has this of every query and
+-- every hand.
 --     itemsOrRefusal m      the items by rising place of the last table of a run, or its refusal
 --     turns p c             one run of a plan for each of its tables, in which that table alone is turned round
 --     turnsOf query doc     .. of the plan that the translator writes for a query

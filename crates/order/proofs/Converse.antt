@@ -1,11 +1,11 @@
 -- Plans that lean on order. No translator of document 01 writes them, but each passes the plan's check, and a hand
--- that turns one table round gives other items, or makes the run fail. So the theorem is no law of plans: it needs that
--- the plain run is tieless. And hands are what they should be.
+-- that turns one table round gives other items, or makes the run fail. So the theorem is no law of plans: it needs
+-- that the plain run is tieless. And hands are what they should be.
 --     turns-are-hands      turning one table round loses no row and adds none
 --     still, still-run     the hand that moves nothing is a hand; its run is the plain run
 --     unmarked, keyless, judged     three plans
 --     lean                 what the plain run of each gives, and what the run with one table turned round gives
---     read-by-place        the items of a translated plan are one list by rising place, and not as the last table stands
+--     read-by-place        a translated plan's items are one list by rising place, and not as the last table stands
 use Prim.Native.Nat.{ℕ, _+_}
 use mathlib.Core.Path.{_≡_, refl, ap, fun-ext}
 use mathlib.Core.List.{List, [], _∷_, _++_, reverse, Permᴰ·refl, Permᴰ·symm, Permᴰ·reverse}

@@ -1,7 +1,7 @@
 -- THE ORDER THEOREM. No plan that the translator writes leans on how the rows of a table stand: let somebody put the
--- rows of every table, as it is made, in any order whatever. The run still answers 6 or 7 at the same operator, or fills
--- as many cells with the same rows in each table; and the items by rising place of its last table are what the query
--- means.
+-- rows of every table, as it is made, in any order whatever. The run still answers 6 or 7 at the same operator, or
+-- fills as many cells with the same rows in each table; and the items by rising place of its last table are what the
+-- query means.
 --     Unmoved items plain by     what the theorem says of the items that the query means, of the plain run, and of the
 --                                run by a hand: both are the same work; where the run by the hand is done, the items
 --                                by rising place of its last table, however that stands, are those items; where it

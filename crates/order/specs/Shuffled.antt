@@ -1,6 +1,6 @@
--- Runs in which somebody moves the rows of every table as it is made. A hand (`Hand`, crates/meaning/specs/Run.antt) is
--- told the tables so far and the new one, and so knows which operator is at work. `running` is the plain run: each table
--- stands as its operator makes it. In `runningBy hand` each stands as the hand leaves it.
+-- Runs in which somebody moves the rows of every table as it is made. A hand (`Hand`, crates/meaning/specs/Run.antt)
+-- is told the tables so far and the new one, and so knows which operator is at work. `running` is the plain run: each
+-- table stands as its operator makes it. In `runningBy hand` each stands as the hand leaves it.
 --     Permuted xs ys        ys has the members of xs, each as often, in some order
 --     Permutes ts us        .. the tables us those of ts, table by table
 --     Shuffles hand         the hand gives each table back with the same rows, in any order that it likes
