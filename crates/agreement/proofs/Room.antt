@@ -26,7 +26,8 @@ use Rattle.meaning.specs.Run.{cells, Filled, running}
 use Rattle.laws.proofs.Outcomes.{full-done, full-failed}
 use Rattle.theorems.proofs.Counts.{counts}
 use Rattle.theorems.specs.Counts.{Full}
-use Rattle.theorems.proofs.Counted.{like-failed, like-done, evaluate-like, more-room, less-room}
+use Rattle.theorems.proofs.Counted.{evaluate-like, more-room, less-room}
+use Rattle.theorems.specs.Counted.{like-failed, like-done}
 use Rattle.theorems.specs.Counted.{Like, items}
 use Rattle.theorems.proofs.Counted.{running-more, running-less}
 use Rattle.agreement.specs.Room.{after, turns, standing, filling}
