@@ -10,7 +10,7 @@
 --     wrote-length         the lent bytes stay as many as they were
 --     wrote-cell           a cell that is read back from its bits
 --     ruled-then           operators, then a rule's
-use Prim.Native.Nat.{ℕ, _+_, _*_, _≤_}
+use Prim.Native.Nat.{ℕ, _+_, _≤_}
 use mathlib.Core.Path.{_≡_, refl, sym, ap, _∙_, subst}
 use mathlib.Core.List.{List, [], _∷_, _++_, append-assoc, append-nil}
 use native.Mathlib.Omega.{arith}
@@ -34,7 +34,8 @@ use Rattle.writing.specs.declared.Keys.the-variants as Keys
 use Rattle.writing.proofs.Penned.{penned-length}
 use Rattle.writing.proofs.Putting.{pens-more}
 use Rattle.rules.specs.declared.Operator.{Operator}
-use Rattle.rules.specs.declared.Operator.the-variants.{First, Attach, Project, Union, Minus, Select, Join, Number}
+use Rattle.rules.specs.declared.Operator.the-variants.{First, Attach, Project, Union, Minus, Select, Join}
+use Rattle.rules.specs.declared.Operator.the-variants.{Number}
 use Rattle.rules.specs.declared.Operator.the-variants.{Apply, Value, Counts, Truths, Once, Step, Root}
 use Rattle.rules.specs.declared.Pen.{Pen}
 use Rattle.rules.specs.declared.Output.{Output}

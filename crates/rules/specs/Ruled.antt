@@ -21,7 +21,8 @@ use Rattle.meaning.specs.Written.{written}
 use Rattle.writing.specs.Penned.{Pens}
 use Rattle.writing.specs.Listed.{columnsOf, keysOf}
 use Rattle.rules.specs.declared.Operator.{Operator}
-use Rattle.rules.specs.declared.Operator.the-variants.{First, Attach, Project, Union, Minus, Select, Join, Number}
+use Rattle.rules.specs.declared.Operator.the-variants.{First, Attach, Project, Union, Minus, Select, Join}
+use Rattle.rules.specs.declared.Operator.the-variants.{Number}
 use Rattle.rules.specs.declared.Operator.the-variants.{Apply, Value, Counts, Truths, Once, Step, Root}
 use Rattle.rules.specs.declared.Pen.{Pen}
 use Rattle.rules.specs.declared.Output.{Output}

@@ -13,10 +13,8 @@
 --     Lent top room cells     the stack stands within the room, and the room within the lent cells
 --     Leaves top room o E before after r    the answer r says what outcome o is; nothing below top has changed;
 --                             the operand ends where E says
---     Apart from n to         n cells from `from` on can be copied to `to`, from the first to the last
 use Prim.Native.Nat.{ℕ, _+_, _^_, _≤_, _<_, max}
 use mathlib.Core.Path.{_≡_}
-use mathlib.Core.Logic.{_⊎_}
 use mathlib.Core.List.{List}
 use lib.IntN.{ℤ}
 use lib.ListN.{length, take}
@@ -102,6 +100,3 @@ pub record Leaves (top room : ℕ) (o : Work Standing) (E : ℕ → Type 0) (bef
   pub fit : Fit top room r
   pub stands : stood after top r ≡ o
   pub ends : (e : ℕ) → E e → Ends r e
-
-abbrev pub Apart : ℕ → ℕ → ℕ → Type 0
-Apart from n to = (to ≤ from) ⊎ (from + n ≤ to)

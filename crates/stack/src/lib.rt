@@ -7,14 +7,14 @@ use steps::Marked;
 ghost use mathlib.Core.Path.{_≡_};
 ghost use mathlib.Core.List.{[], _∷_};
 ghost use Prim.Native.Nat.{ℕ, _+_, _-_, _*_, _≤_, _<_, max};
-ghost use lib.IntN.{pos};
-ghost use lib.ListN.{length, take};
-ghost use Rattle.laws.specs.Rows.{row, laid, padded};
+ghost use lib.ListN.{length};
+ghost use Rattle.laws.specs.Rows.{row};
 ghost use Rattle.meaning.specs.Catalogue.{Catalogue, catalogueOf};
 ghost use Rattle.meaning.specs.World.{worldOf};
 ghost use Rattle.meaning.specs.Counted.{adding};
 ghost use Rattle.steps.specs.Marks.{Ready};
-ghost use Rattle.stack.specs.Stack.{stood, paired, Fit, FitPair, Sums, EndsPair, Ends, At, Leaves, Lent, Apart, raising, joining, besiding, Adds};
+ghost use Rattle.stack.specs.Stack.{stood, paired, Fit, FitPair, Sums, EndsPair, Ends, At, Leaves, Lent};
+ghost use Rattle.stack.specs.Stack.{raising, joining, besiding, Adds};
 ghost use Rattle.stack.specs.Arms.{rooted, kept, applied, counted, valued, Valued, stepped, Reaches};
 
 // What an operand leaves on the stack: how many items stand there, the count of what stood while they were worked out, and
@@ -46,30 +46,6 @@ pub fn larger(a: usize, b: usize) -> usize
     ensures { λ r. ⌜ r ≡ max a b ⌝ }
 {
     if a < b { b } else { a }
-}
-
-// Copies n cells to `to`: down over themselves, or up past themselves.
-pub fn copy(work: &mut [i64], from: usize, n: usize, to: usize)
-    requires { ⌜ Apart from n to × (from + n ≤ length (now work)) × (to + n ≤ length (now work)) ⌝ }
-    ensures { λ r. ⌜ now (work .exit) ≡ laid (now (work .entry)) to (row (now (work .entry)) from n) ⌝ }
-{
-    let mut i: usize = 0;
-    while i < n {
-        work[to + i] = work[from + i];
-        i += 1;
-    }
-}
-
-// Zeroes every cell from `from` on.
-pub fn clear(work: &mut [i64], from: usize)
-    requires { ⌜ from ≤ length (now work) ⌝ }
-    ensures { λ r. ⌜ now (work .exit) ≡ padded (pos 0) (length (now (work .entry))) (take from (now (work .entry))) ⌝ }
-{
-    let mut i = from;
-    while i < work.len() {
-        work[i] = 0;
-        i += 1;
-    }
 }
 
 // Adds an item, where the room suffices; else refusal 6 at `at`.
@@ -105,7 +81,7 @@ pub fn again(
     if room - top < n {
         return Stood::Full(at);
     }
-    copy(work, start, n, top);
+    lent::copy(work, start, n, top);
     Stood::Items {
         length: n,
         count: n,
@@ -228,7 +204,7 @@ pub fn keep(pair: Pair, work: &mut [i64], top: usize) -> Stood
     else {
         return join(pair);
     };
-    copy(work, top + first, second, top);
+    lent::copy(work, top + first, second, top);
     Stood::Items {
         length: second,
         count,

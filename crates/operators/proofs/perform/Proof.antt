@@ -8,8 +8,10 @@ use Rattle.plans.specs.Accepted.{Suited}
 use Rattle.plans.specs.Widths.{tablesOf}
 use Rattle.directory.specs.Sound.{SoundOf, Sound}
 use Rattle.directory.proofs.Cases.{sound-case, listed}
-use Rattle.operators.proofs.Performed.{one-made, attach-made, project-made, union-made, minus-made, select-made}
-use Rattle.operators.proofs.Performed.{join-made, number-made, apply-made, value-made, counts-made, truths-made}
+use Rattle.operators.proofs.Performed.{one-made, attach-made, project-made, union-made, minus-made}
+use Rattle.operators.proofs.Performed.{select-made}
+use Rattle.operators.proofs.Performed.{join-made, number-made, apply-made, value-made, counts-made}
+use Rattle.operators.proofs.Performed.{truths-made}
 use Rattle.operators.proofs.Performed.{once-made, step-made, root-made}
 use borrow.Author.Needs.{needs}
 use Rattle.operators.proofs.perform.Statement.{statement}

@@ -9,9 +9,6 @@ use lib.Dec.{lit≤}
 use Rattle.rules.proofs.Adding.{wrote-then, wrote-room}
 use Rattle.rules.proofs.function_tail.Statement.{statement}
 use Rattle.rules.proofs.function_tail.Tie as tie
-use Rattle.rules.proofs.function_tail.Reads as reads
-use Rattle.rules.proofs.function_tail.Lts as lts
-use Rattle.rules.proofs.add.Reads as add-reads
 
 add-requires : tie.Need-add-requires
 add-requires c κs = search needs

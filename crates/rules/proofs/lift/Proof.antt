@@ -10,9 +10,6 @@ use Rattle.rules.proofs.Adding.{wrote-length}
 use Rattle.rules.proofs.Lifting.{lifts-none, lifts-room, lifts-more}
 use Rattle.rules.proofs.lift.Statement.{statement}
 use Rattle.rules.proofs.lift.Tie as tie
-use Rattle.rules.proofs.lift.Reads as reads
-use Rattle.rules.proofs.lift.Lts as lts
-use Rattle.rules.proofs.lift_one.Reads as lift-one-reads
 
 abbrev Inv-loop : tie.InvT-loop
 Inv-loop plan₀ m first flags done₀ v₀ plan done v =

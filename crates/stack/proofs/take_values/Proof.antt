@@ -14,14 +14,11 @@ use Rattle.meaning.specs.Catalogue.{catalogueOf}
 use Rattle.meaning.specs.World as World
 use Rattle.meaning.specs.World.{worldOf}
 use Rattle.items.specs.Answers.{tried}
-use Rattle.stack.proofs.Moves.{getD-past}
+use Rattle.lent.proofs.Moves.{getD-past}
 use Rattle.stack.proofs.Valuing.{Taking, taking-none, taking-more, taking-stop, taking-all}
 use borrow.Author.Needs.{needs}
 use Rattle.stack.proofs.take_values.Statement.{statement}
 use Rattle.stack.proofs.take_values.Tie as tie
-use Rattle.stack.proofs.take_values.Reads as reads
-use Rattle.stack.proofs.take_values.Lts as lts
-use Rattle.items.proofs.value.Reads as value-reads
 
 abbrev Inv-loop : tie.InvT-loop
 Inv-loop doc rows work₀ top n i₀ work i =
@@ -56,39 +53,30 @@ value-is :
     (getD (c .before .before .before .loop .work) (c .before .before .before .before .before .args .top + c .before .before .before .loop .i) (pos 0))
 value-is c = c .value .ensures ∙ ap (World.value _) (toZ-ofZ (record { sfits = c .before .value-arg .given }))
 
--- src/lib.rt:268:5
 loop-holds : tie.Need-loop-holds Inv-loop μ-loop
 loop-holds c = (omega arith, refl, ([], taking-none _ _, sym (laid-nothing _ _)))
 
--- src/lib.rt:269:50
 add-value : tie.Need-add-value Inv-loop μ-loop
 add-value c = search needs
 
--- src/lib.rt:269:45
 mul-value : tie.Need-mul-value Inv-loop μ-loop
 mul-value c = search needs
 
--- src/lib.rt:269:45
 slice-copy-out-value : tie.Need-slice-copy-out-value Inv-loop μ-loop
 slice-copy-out-value c = search needs
 
--- src/lib.rt:269:13
 value-requires : tie.Need-value-requires Inv-loop μ-loop
 value-requires c κs = search needs
 
--- src/lib.rt:270:26
 enum-known-value : tie.Need-enum-known-value Inv-loop μ-loop
 enum-known-value c = search needs
 
--- src/lib.rt:271:13
 enum-told : tie.Need-enum-told Inv-loop μ-loop
 enum-told c = search needs
 
--- src/lib.rt:271:13
 same-length : tie.Need-same-length Inv-loop μ-loop
 same-length c = c .before .before .before .before .before .loop .inv .1
 
--- src/lib.rt:271:13
 returns : tie.Need-returns Inv-loop μ-loop
 unfolding worldOf tried
 returns c =
@@ -101,27 +89,21 @@ returns c =
       ap (take (a .args .top)) (v .2) ∙ take-laid (a .args .work .now) (a .args .top) (v .0) (a .args .top) (omega arith) (omega arith),
     )
 
--- src/lib.rt:273:14
 add-cell : tie.Need-add-cell Inv-loop μ-loop
 add-cell c = search needs
 
--- src/lib.rt:273:9
 mul-cell : tie.Need-mul-cell Inv-loop μ-loop
 mul-cell c = search needs
 
--- src/lib.rt:273:9
 slice-set-from-cell : tie.Need-slice-set-from-cell Inv-loop μ-loop
 slice-set-from-cell c = search needs
 
--- src/lib.rt:274:9
 add-i : tie.Need-add-i Inv-loop μ-loop
 add-i c = search needs
 
--- src/lib.rt:268:5
 loop-less : tie.Need-loop-less Inv-loop μ-loop
 loop-less c = search needs
 
--- src/lib.rt:268:5
 loop-again : tie.Need-loop-again Inv-loop μ-loop
 unfolding worldOf tried
 loop-again c =
@@ -141,11 +123,9 @@ loop-again c =
       ),
     )
 
--- src/lib.rt:263:1
 same-length-2 : tie.Need-same-length-2 Inv-loop μ-loop
 same-length-2 c = c .before .loop .inv .1
 
--- src/lib.rt:263:1
 returns-2 : tie.Need-returns-2 Inv-loop μ-loop
 returns-2 c =
     let a = c .before .before .before in

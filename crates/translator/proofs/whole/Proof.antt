@@ -8,12 +8,6 @@ use Rattle.translator.proofs.Concluding.{whole-asked, whole-room, whole
 use Rattle.translator.proofs.Concluding.{fits-answer, fits-left}
 use Rattle.translator.proofs.whole.Statement.{statement}
 use Rattle.translator.proofs.whole.Tie as tie
-use Rattle.translator.proofs.whole.Reads as reads
-use Rattle.translator.proofs.whole.Lts as lts
-use Rattle.rules.proofs.add.Reads as add-reads
-use Rattle.rules.proofs.last.Reads as last-reads
-use Rattle.translator.proofs.expression.Reads as expression-reads
-use Rattle.writing.proofs.clear.Reads as clear-reads
 
 add-requires : tie.Need-add-requires
 add-requires c κs = record { few = lit≤ tt; short = lit≤ tt }
