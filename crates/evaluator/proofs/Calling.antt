@@ -110,7 +110,8 @@ module _
     call-refused h e z =
         let (k, p, s, a) = check-refuses query c q h in
         called-refused _ (length before) k p before after r
-        (sym (ap (λ (m : Reading Read). evaluateOutcome (length before) (reading m (catalogued doc (length before)))) s))
+        (sym (ap (λ (m : Reading Read). evaluateOutcome (length before) (reading m (catalogued doc (length before))))
+        s))
         (ap answered e ∙ refusing-answer c h ∙ a) z
 
     module _ (n : ℕ) (h : c ≡ Checked.Records n) (d : Catalogued) (s : Answers.answered d ≡ catalogueCall doc) where
@@ -125,7 +126,8 @@ module _
 
       pub call-unsound :
           (p : ℕ) → d ≡ Catalogued.Unsound p → r ≡ unsounding d →
-          after ≡ padded (pos 0) (length before) (take 0 before) → Called (evaluateCall query doc (length before)) after r
+          after ≡ padded (pos 0) (length before) (take 0 before) →
+          Called (evaluateCall query doc (length before)) after r
       unfolding evaluateOutcome reading unsounding answered
       call-unsound p u e z =
           let (t, i, j) = check-reads query c q n h in

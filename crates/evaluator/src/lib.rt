@@ -9,8 +9,8 @@ ghost use Rattle.evaluator.specs.Answers.{answered, refusing, unsounding
 // Nesting is at most 32.
 const LEVELS: usize = 32;
 
-// The answer: the number of items and their count; or a refusal with its place: 1 to 3 of the query, 4 of the catalogue,
-// 6 and 7 of the work.
+// The answer: the number of items and their count; or a refusal with its place: 1 to 3 of the query, 4 of the
+// catalogue, 6 and 7 of the work.
 pub enum Evaluated {
     Items { number: usize, count: usize },
     Unsound(usize),
@@ -84,12 +84,13 @@ fn items_left(answer: Stood) -> usize
     }
 }
 
-// The evaluator: a query over a catalogue. Its items stand from cell 0 on, every other cell is 0; the answer gives their
-// number and their count. Query first, then catalogue, then work; a refusal leaves every cell at 0.
+// The evaluator: a query over a catalogue. Its items stand from cell 0 on, every other cell is 0; the answer gives
+// their number and their count. Query first, then catalogue, then work; a refusal leaves every cell at 0.
 pub fn evaluate(query: &[u8], doc: &[u8], work: &mut [i64]) -> Evaluated
     ensures { λ r. ⌜
         (answered r ≡ evaluateCall (now (query .entry)) (now (doc .entry)) (length (now (work .entry))) .answer)
-        × (now (work .exit) ≡ evaluateCall (now (query .entry)) (now (doc .entry)) (length (now (work .entry))) .left) ⌝ }
+        × (now (work .exit) ≡ evaluateCall (now (query .entry)) (now (doc .entry))
+        (length (now (work .entry))) .left) ⌝ }
 {
     let checked = queries::check(query);
     let queries::Checked::Records(_) = checked else {

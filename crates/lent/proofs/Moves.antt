@@ -91,7 +91,8 @@ module _ {A : Type 0} where
       ∙ ap (laid xs at) (replicate-append-replicate n 1 z ∙ ap (λ (m : ℕ). replicate m z) t)
 
   pub padded-zeros :
-      (xs : List A) (at : ℕ) (z : A) → at ≤ length xs → laid xs at (replicate (length xs - at) z) ≡ padded z (length xs) (take at xs)
+      (xs : List A) (at : ℕ) (z : A) → at ≤ length xs →
+      laid xs at (replicate (length xs - at) z) ≡ padded z (length xs) (take at xs)
   unfolding laid padded
   padded-zeros xs at z h =
       rw (

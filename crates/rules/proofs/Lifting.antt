@@ -231,7 +231,8 @@ module _
   pub lifts-wrote : Wrote (lifts e m cs (p .operators) vs) x p y (r .pen)
   lifts-wrote =
       subst (λ (us : List ℕ). Wrote (lifts e m cs (p .operators) us) x p y (r .pen)) s
-      (rw (lifts-same (tablesOf ts) e m cs (p .operators) (flagged fs 8) (all-map (flagged fs 8) h (flagged-below fs 8)))
+      (rw (lifts-same (tablesOf ts) e m cs (p .operators) (flagged fs 8)
+      (all-map (flagged fs 8) h (flagged-below fs 8)))
       at (g .wrote))
 
   pub lifts-holds : Holds (r .tables) (lifted e (p .operators) vs)

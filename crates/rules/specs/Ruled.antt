@@ -1,7 +1,8 @@
 -- What the rules of the translation leave in the lent bytes (document 01, 'Translation').
 --     operatorOf o           an operator as the definitions have it
 --     Room p k               k more operators can be counted: of 5,000 operators, each at most 12 bytes long
---     Wrote os x p y r       the operators os are written over the bytes x where p stands; y is left, writing stands at r
+--     Wrote os x p y r       the operators os are written over the bytes x where p stands; y is left, writing stands at
+--                            r
 --     Ruled m next x p y r   the same for a rule's operators; r names its result's table, and next as the offset after
 --     choice n a b           what QI adds after its operands
 --     tablesOf ts            the table of each variable, from the row of eight

@@ -3,7 +3,8 @@
 --     known-rows                a catalogue that was accepted is one that steps can walk
 --     refusal-leaves            a refusal leaves zeros, once all cells are cleared
 --     walked-leaves             what the operators come to, as what the call answers and leaves
---     bad-plan-leaves, bad-catalogue-leaves, run-leaves     each of the three, as what the whole call answers and leaves
+--     bad-plan-leaves, bad-catalogue-leaves, run-leaves     each of the three, as what the whole call answers and
+--                                                           leaves
 --     none-filled               a refusal fills no cell
 --     cleared                   what is left once the cells past the filled are zero
 use Prim.Native.Nat.{ℕ, _*_, _-_}
@@ -33,7 +34,7 @@ use Rattle.plans.specs.declared.Checked.the-variants as Planned
 use Rattle.plans.specs.Walk.{checked, planCount}
 use Rattle.running.specs.declared.Walked.{Walked}
 use Rattle.running.specs.declared.Walked.the-variants as Walked
-use Rattle.running.specs.Leaving.{Walks, placed, operatorsOf, Accepted, carriedOut}
+use Rattle.running.specs.Leaving.{Walks, operatorsIn, operatorsOf, Accepted, carriedOut}
 use Rattle.runner.specs.declared.Ran.{Ran}
 use Rattle.runner.specs.declared.Ran.the-variants as Ran
 use Rattle.runner.specs.Answers.{answered, filledBy, badPlan, badCatalogue, concluding}
@@ -55,7 +56,8 @@ walked-leaves :
     Leaves (runOutcome (length cells) (reads o)) cells (concluding w)
 unfolding Walks runOutcome concluding answered filledBy
 walked-leaves o cells (Walked.Tables start rows filled) (f, e, t) =
-    subst (λ (x : Work Filled). Leaves (runOutcome (length cells) (reads x)) cells (concluding (Walked.Tables start rows filled)))
+    subst (λ (x : Work Filled). Leaves (runOutcome (length cells) (reads x)) cells
+    (concluding (Walked.Tables start rows filled)))
     (sym e)
     (record {
       answer = told;
@@ -65,7 +67,8 @@ walked-leaves o cells (Walked.Tables start rows filled) (f, e, t) =
   where
     told :
         Calls.gives (start ∷ rows ∷ filled ∷ [])
-        ≡ Calls.gives ((f .filled - length (lastTable (f .tables)) * 3) ∷ length (lastTable (f .tables)) ∷ f .filled ∷ [])
+        ≡ Calls.gives ((f .filled - length (lastTable (f .tables)) * 3) ∷ length (lastTable (f .tables)) ∷ f .filled
+        ∷ [])
     told =
         ap (λ (s : ℕ). Calls.gives (s ∷ rows ∷ filled ∷ [])) (t .from)
         ∙ ap₂ (λ (n r : ℕ). Calls.gives ((n - r * 3) ∷ r ∷ n ∷ [])) (t .count) (t .last)
@@ -73,12 +76,14 @@ walked-leaves o cells (Walked.Full p) e =
     subst (λ (x : Work Filled). Leaves (runOutcome (length cells) (reads x)) cells (concluding (Walked.Full p))) (sym e)
     (refusal-leaves 6 p (length cells) cells (concluding (Walked.Full p)) refl refl refl)
 walked-leaves o cells (Walked.Fails p) e =
-    subst (λ (x : Work Filled). Leaves (runOutcome (length cells) (reads x)) cells (concluding (Walked.Fails p))) (sym e)
+    subst (λ (x : Work Filled). Leaves (runOutcome (length cells) (reads x)) cells (concluding (Walked.Fails p)))
+    (sym e)
     (refusal-leaves 7 p (length cells) cells (concluding (Walked.Fails p)) refl refl refl)
 
 module _ (plan : List ℕ) where
-  accepted-of : (m : Reading (List Placed)) (n : ℕ) → reads n ≡ reading m (λ ps. reads (length ps)) → m ≡ reads (placed m)
-  unfolding reading placed
+  accepted-of :
+      (m : Reading (List Placed)) (n : ℕ) → reads n ≡ reading m (λ ps. reads (length ps)) → m ≡ reads (operatorsIn m)
+  unfolding reading operatorsIn
   accepted-of (refuses k p) n e = absurd (refuses-reads k p n (sym e))
   accepted-of (reads ps) n e = refl
 

@@ -1,5 +1,6 @@
 -- What the call answers and leaves, before the cells past the filled are cleared (document 01, 'Room').
---     Leaves o cells r       the answer r is that of the outcome o, and so are the cells once all past the filled are zero
+--     Leaves o cells r       the answer r is that of the outcome o, and so are the cells once all past the filled are
+--                            zero
 use Prim.Native.Nat.{_≤_}
 use mathlib.Core.Path.{_≡_}
 use mathlib.Core.List.{List}

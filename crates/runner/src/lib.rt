@@ -6,7 +6,8 @@ ghost use Rattle.meaning.specs.Calls.{runCall};
 ghost use Rattle.runner.specs.Answers.{answered, filledBy, badPlan, badCatalogue, concluding};
 ghost use Rattle.runner.specs.Calling.{Leaves};
 
-// What a run answers: the start and the rows of the last table and the cells filled; or the place of refusal 5, 4, 6 or 7.
+// What a run answers: the start and the rows of the last table and the cells filled; or the place of refusal 5, 4, 6 or
+// 7.
 pub enum Ran {
     Tables {
         start: usize,
@@ -86,8 +87,8 @@ fn filled_by(ran: Ran) -> usize
     }
 }
 
-// Runs a plan over a catalogue in the lent cells. All tables stand there end to end, and zeros after them; after a refusal
-// there are only zeros.
+// Runs a plan over a catalogue in the lent cells. All tables stand there end to end, and zeros after them; after a
+// refusal there are only zeros.
 pub fn run(plan: &[u8], doc: &[u8], work: &mut [i64]) -> Ran
     ensures answer { λ r. ⌜ answered r
         ≡ runCall (now (plan .entry)) (now (doc .entry)) (length (now (work .entry))) .answer ⌝ }

@@ -1,5 +1,7 @@
--- A run under way (document 01, 'Room'): what is left of the plan, on the tables that stand, gives what the whole gives.
---     Going ..            the loop's invariant, with n tables in `filled` cells and the plan's next record at offset `at`
+-- A run under way (document 01, 'Room'): what is left of the plan, on the tables that stand, gives what the whole
+-- gives.
+--     Going ..            the loop's invariant, with n tables in `filled` cells and the plan's next record at offset
+--                         `at`
 --     going-start         nothing has been done
 --     turn-fails, turn-full, turn-more     the next operator fails; it passes the room; it has laid its table
 --     going-end           at the end of the plan the tables that stand are those of the whole plan
@@ -31,8 +33,8 @@ use Rattle.plans.specs.Decoded.{operatorOf}
 use Rattle.plans.specs.Walk.{widthsOf}
 use Rattle.plans.proofs.Callers.{ahead-start, ahead-end, plan-last}
 use Rattle.plans.proofs.Walking.{last-width, widths-more, widths-length}
-use Rattle.directory.specs.Directory.{standAt, entered, tablesIn, widthsIn, Listed, EndToEnd}
-use Rattle.directory.proofs.Entries.{Entry, length-widths, width-of}
+use Rattle.directory.specs.Directory.{standAt, entered, tablesIn, widthsIn, Listed, EndToEnd, Entry}
+use Rattle.directory.proofs.Entries.{length-widths, width-of}
 
 pub record Going (w : World) (room lent : ℕ) (plan : List ℕ) (all : List Placed)
     (work : List ℤ) (dir : List ℕ) (at n filled : ℕ) : Type 0 where
@@ -87,7 +89,8 @@ last-table work dir n m e =
     ∙ ap length (last-append (tablesIn work dir m) (tableAt work (standAt dir m)))
     ∙ length-rowsAt work (standAt dir m .at) (standAt dir m .rows) (standAt dir m .width)
 
-module _ (w : World) (room lent : ℕ) (plan : List ℕ) (all : List Placed) (work : List ℤ) (dir : List ℕ) (at n filled : ℕ)
+module _ (w : World) (room lent : ℕ) (plan : List ℕ) (all : List Placed) (work : List ℤ) (dir : List ℕ)
+    (at n filled : ℕ)
     (g : Going w room lent plan all work dir at n filled) where
   abbrev ts : List Table
   ts = tablesIn work dir n
@@ -149,7 +152,8 @@ module _ (w : World) (room lent : ℕ) (plan : List ℕ) (all : List Placed) (wo
     by-room : Table → Bool → Work Filled
     by-room u b = within b at (running w room (t .after) (ts ++ (u ∷ [])) (filled + length u * t .width))
 
-    pub turn-full : (u : Table) → made ≡ gives u → room < filled + length u * t .width → running w room all [] 0 ≡ full at
+    pub turn-full :
+        (u : Table) → made ≡ gives u → room < filled + length u * t .width → running w room all [] 0 ≡ full at
     unfolding within by-room
     turn-full u e h = turn-gives u e ∙ ap (by-room u) (lt-leb (filled + length u * t .width) room h)
 

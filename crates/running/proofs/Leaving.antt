@@ -51,7 +51,8 @@ pub ready-kept :
 ready-kept doc n from to from₀ to₀ r e d =
     record { known = r .known; sources = omega (arith, r .sources); targets = omega (arith, r .targets) }
 
-module _ (w : World) (room lent : ℕ) (plan : List ℕ) (all : List Placed) (work : List ℤ) (dir : List ℕ) (at n filled : ℕ)
+module _ (w : World) (room lent : ℕ) (plan : List ℕ) (all : List Placed) (work : List ℤ) (dir : List ℕ)
+    (at n filled : ℕ)
     (g : Going w room lent plan all work dir at n filled) (before : at < length plan)
     (r : Read) (m : Means plan r (operatorAt plan at)) where
   pub never-unread : r ≡ Read.Unsound → ⊥
@@ -125,7 +126,8 @@ module _ (w : World) (room lent : ℕ) (plan : List ℕ) (all : List Placed) (wo
       turned-counts t more i o = subst (Goes room top wide made work after dir next) i o .3
 
 -- at the end of the plan
-module _ (w : World) (room lent : ℕ) (plan : List ℕ) (all : List Placed) (work : List ℤ) (dir : List ℕ) (at n filled : ℕ)
+module _ (w : World) (room lent : ℕ) (plan : List ℕ) (all : List Placed) (work : List ℤ) (dir : List ℕ)
+    (at n filled : ℕ)
     (g : Going w room lent plan all work dir at n filled) (end : length plan ≤ at) (e : planRead plan ≡ reads all) where
   pub some : 1 ≤ n
   some = some-table w room lent plan all work dir at n filled g end e

@@ -2,11 +2,12 @@
 --     Tells f cells start rows filled     the tables f stand in the cells from 0 on and fill so many of them; the last
 --                            starts there and has so many rows
 --     Walks o cells r        r is the outcome o of the operators; where all are done, their tables stand in the cells
---     placed m               the operators that a reading gives; none where it refuses
+--     operatorsIn m               the operators that a reading gives; none where it refuses
 --     operatorsOf bs         the operators of a plan that is sound
 --     Accepted bs            it is
 --     carriedOut plan doc rows room      the outcome of the operators of a plan over a catalogue of so many rows
---     Goes ..                what one operator comes to: its table laid and entered, or that it passes the room, or fails
+--     Goes ..                what one operator comes to: its table laid and entered, or that it passes the room, or
+--                            fails
 --     refusedAt t at         the refusal of an operator at an offset
 use Prim.Native.Nat.{ℕ, _+_, _*_, _-_, _≤_}
 use mathlib.Core.Path.{_≡_}
@@ -43,12 +44,12 @@ Walks o cells (Walked.Tables start rows filled) = (f : Filled) × (o ≡ done f)
 Walks o cells (Walked.Full p) = o ≡ full p
 Walks o cells (Walked.Fails p) = o ≡ failed p
 
-unfoldable pub placed : Reading (List Placed) → List Placed
-placed (refuses n p) = []
-placed (reads ps) = ps
+unfoldable pub operatorsIn : Reading (List Placed) → List Placed
+operatorsIn (refuses n p) = []
+operatorsIn (reads ps) = ps
 
 abbrev pub operatorsOf : List ℕ → List Placed
-operatorsOf bs = placed (planRead bs)
+operatorsOf bs = operatorsIn (planRead bs)
 
 abbrev pub Accepted : List ℕ → Type 0
 Accepted bs = planRead bs ≡ reads (operatorsOf bs)

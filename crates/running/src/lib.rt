@@ -58,7 +58,8 @@ fn lay(
     requires { ⌜ Listed (now directory) (top .tables) (top .cells)
         × Sound (now plan) (now directory) (top .tables) operator ⌝ }
     requires { ⌜ (top .tables < 512) × (top .cells ≤ room) × (room ≤ length (now work)) × (room ≤ 65536) ⌝ }
-    requires { ⌜ (32768 ≤ length (now order)) × (16384 ≤ length (now aside)) × Ready (now doc) rows (now from) (now to) ⌝ }
+    requires { ⌜ (32768 ≤ length (now order)) × (16384 ≤ length (now aside))
+        × Ready (now doc) rows (now from) (now to) ⌝ }
     ensures { λ r. ⌜ Goes room top (madeWidth (now (directory .entry)) operator)
         (make (worldOf (catalogueOf (now (doc .entry)) rows)) (operatorOf (now (plan .entry)) operator)
         (tablesIn (now (work .entry)) (now (directory .entry)) (top .tables)))
@@ -123,7 +124,8 @@ fn walk(
     room: usize,
 ) -> Walked
     requires { ⌜ Accepted (now plan) × (length (now directory) ≡ 1536) × (room ≤ length (now work)) × (room ≤ 65536) ⌝ }
-    requires { ⌜ (32768 ≤ length (now order)) × (16384 ≤ length (now aside)) × Ready (now doc) rows (now from) (now to) ⌝ }
+    requires { ⌜ (32768 ≤ length (now order)) × (16384 ≤ length (now aside))
+        × Ready (now doc) rows (now from) (now to) ⌝ }
     ensures { λ r. ⌜ Walks (carriedOut (now (plan .entry)) (now (doc .entry)) rows room) (now (work .exit)) r ⌝ }
 {
     let mut at: usize = 0;

@@ -1,5 +1,6 @@
 -- The stack: what stands in the lent cells from `top` on (document 01, 'Room').
---     stood cells top r       what an answer says, read from the cells: the items that stand there and their count, or 6, or 7
+--     stood cells top r       what an answer says, read from the cells: the items that stand there and their count, or
+--                             6, or 7
 --     Paired                  the items of two operands, and the count of what stood while they were worked out
 --     paired cells top p      what an answer for two operands says, read from the cells
 --     Fit, FitPair            the count of an answer is within the room, and its items within its count
@@ -37,7 +38,8 @@ pub record Paired : Type 0 where
   pub count : ℕ
 
 unfoldable pub paired : List ℤ → ℕ → Pair → Work Paired
-paired cells top (Pair.Items l m k n) = done (record { first = row cells top l; second = row cells (top + l) m; count = k })
+paired cells top (Pair.Items l m k n) =
+    done (record { first = row cells top l; second = row cells (top + l) m; count = k })
 paired cells top (Pair.Full p) = full p
 paired cells top (Pair.Failed p) = failed p
 

@@ -17,8 +17,8 @@ ghost use Rattle.stack.specs.Stack.{stood, paired, Fit, FitPair, Sums, E
 ghost use Rattle.stack.specs.Stack.{raising, joining, besiding, Adds};
 ghost use Rattle.stack.specs.Arms.{rooted, kept, applied, counted, valued, Valued, stepped, Reaches};
 
-// What an operand leaves on the stack: how many items stand there, the count of what stood while they were worked out, and
-// the offset after the operand; or refusal 6 or 7 and its place.
+// What an operand leaves on the stack: how many items stand there, the count of what stood while they were worked out,
+// and the offset after the operand; or refusal 6 or 7 and its place.
 pub enum Stood {
     Items {
         length: usize,
@@ -51,7 +51,8 @@ pub fn larger(a: usize, b: usize) -> usize
 // Adds an item, where the room suffices; else refusal 6 at `at`.
 pub fn put(cell: i64, at: usize, next: usize, work: &mut [i64], top: usize, room: usize) -> Stood
     requires { ⌜ Lent top room (now work) ⌝ }
-    ensures { λ r. ⌜ Leaves top room (adding (room - top) at 0 (cell ∷ [])) (At next) (now (work .entry)) (now (work .exit)) r ⌝ }
+    ensures { λ r. ⌜ Leaves top room (adding (room - top) at 0 (cell ∷ [])) (At next) (now (work .entry))
+        (now (work .exit)) r ⌝ }
 {
     if top == room {
         return Stood::Full(at);
@@ -101,7 +102,8 @@ pub fn root(
     room: usize,
 ) -> Stood
     requires { ⌜ (10 * rows ≤ length (now doc)) × (rows < 65536) × (1 ≤ k) × Lent top room (now work) ⌝ }
-    ensures { λ r. ⌜ Leaves top room (rooted (worldOf (catalogueOf (now (doc .entry)) rows)) (room - top) at k) (At next)
+    ensures { λ r. ⌜ Leaves top room (rooted (worldOf (catalogueOf (now (doc .entry)) rows)) (room - top) at k)
+        (At next)
         (now (work .entry)) (now (work .exit)) r ⌝ }
 {
     let found = items::root(doc, rows, k);
@@ -193,7 +195,8 @@ pub fn beside(length: usize, count: usize, second: Stood) -> Pair
 pub fn keep(pair: Pair, work: &mut [i64], top: usize) -> Stood
     requires { ⌜ FitPair top (length (now work)) pair ⌝ }
     ensures { λ r. ⌜ ((room : ℕ) → FitPair top room pair
-        → Leaves top room (kept (paired (now (work .entry)) top pair)) (EndsPair pair) (now (work .entry)) (now (work .exit)) r) ⌝ }
+        → Leaves top room (kept (paired (now (work .entry)) top pair)) (EndsPair pair) (now (work .entry))
+        (now (work .exit)) r) ⌝ }
 {
     let Pair::Items {
         first,
@@ -212,7 +215,8 @@ pub fn keep(pair: Pair, work: &mut [i64], top: usize) -> Stood
     }
 }
 
-// A function of two sides that have been worked out: how many items each has, and the count; their cells stand from top on.
+// A function of two sides that have been worked out: how many items each has, and the count; their cells stand from top
+// on.
 fn function(
     f: Function,
     first: usize,
@@ -264,7 +268,8 @@ fn function(
 pub fn apply(f: Function, pair: Pair, at: usize, work: &mut [i64], top: usize) -> Stood
     requires { ⌜ FitPair top (length (now work)) pair ⌝ }
     ensures { λ r. ⌜ ((c : Catalogue) (room : ℕ) → FitPair top room pair → Leaves top room
-        (applied (worldOf c) at f (paired (now (work .entry)) top pair)) (EndsPair pair) (now (work .entry)) (now (work .exit)) r) ⌝ }
+        (applied (worldOf c) at f (paired (now (work .entry)) top pair)) (EndsPair pair) (now (work .entry))
+        (now (work .exit)) r) ⌝ }
 {
     let Pair::Items {
         first,
@@ -281,7 +286,8 @@ pub fn apply(f: Function, pair: Pair, at: usize, work: &mut [i64], top: usize) -
 // Puts the value of each of n items in its place; whether every one has a value.
 fn take_values(doc: &[u8], rows: usize, work: &mut [i64], top: usize, n: usize) -> bool
     requires { ⌜ (10 * rows ≤ length (now doc)) × (top + n ≤ length (now work)) ⌝ }
-    ensures { λ r. ⌜ Valued (worldOf (catalogueOf (now (doc .entry)) rows)) top n (now (work .entry)) (now (work .exit)) r ⌝ }
+    ensures { λ r. ⌜ Valued (worldOf (catalogueOf (now (doc .entry)) rows)) top n (now (work .entry)) (now (work .exit))
+        r ⌝ }
 {
     let mut i: usize = 0;
     while i < n {
@@ -306,7 +312,8 @@ pub fn values(
 ) -> Stood
     requires { ⌜ (10 * rows ≤ length (now doc)) × Fit top (length (now work)) operand ⌝ }
     ensures { λ r. ⌜ ((room : ℕ) → Fit top room operand → Leaves top room
-        (valued (worldOf (catalogueOf (now (doc .entry)) rows)) at (stood (now (work .entry)) top operand)) (Ends operand)
+        (valued (worldOf (catalogueOf (now (doc .entry)) rows)) at (stood (now (work .entry)) top operand))
+        (Ends operand)
         (now (work .entry)) (now (work .exit)) r) ⌝ }
 {
     let Stood::Items {
@@ -361,7 +368,8 @@ pub fn step(
 ) -> Stood
     requires { ⌜ Lent top room (now work) × Fit top room operand × Ready (now doc) rows (now from) (now to) ⌝ }
     ensures { λ r. ⌜ Leaves top room
-        (stepped (worldOf (catalogueOf (now (doc .entry)) rows)) (room - top) at axis test (stood (now (work .entry)) top operand))
+        (stepped (worldOf (catalogueOf (now (doc .entry)) rows)) (room - top) at axis test
+        (stood (now (work .entry)) top operand))
         (Ends operand) (now (work .entry)) (now (work .exit)) r ⌝ }
 {
     let Stood::Items {

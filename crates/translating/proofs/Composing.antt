@@ -53,7 +53,8 @@ unfolding next
 one-made tail a l e g t = ruled-then (g .wrote) (ruled-is (tail-is tail (g .wrote .count) (g .table)) (g .after) t)
 
 module _
-    (rd : ℕ → Parsed) {at l : ℕ} {ts x y : List ℕ} {p : Pen} {r : Output} (o : Two rd at) (m : Makes (rd at) l ts x p y r)
+    (rd : ℕ → Parsed) {at l : ℕ} {ts x y : List ℕ} {p : Pen} {r : Output} (o : Two rd at)
+    (m : Makes (rd at) l ts x p y r)
     (e : Tables) (h : Holds ts e) where
   -- a's part
   first : Ruled (tr (o .a .q) (p .operators) l e) (o .a .end) x p y r
@@ -82,7 +83,8 @@ module _
       let n = length (tr (o .b .q) k l e .ops) in
       ruled-then (first .wrote)
       (ruled-then (b .wrote)
-      (ruled-is (tails-is tail (b .wrote .count ∙ ap (λ (i : ℕ). i + n) (first .wrote .count)) (first .table) (b .table))
+      (ruled-is (tails-is tail (b .wrote .count ∙ ap (λ (i : ℕ). i + n) (first .wrote .count)) (first .table)
+      (b .table))
       (b .after) t))
 
   pub let-made :
@@ -142,7 +144,8 @@ module _
     unfolding k′
     at-lift = lift′ .count ∙ ap (λ (i : ℕ). i + length (lifts e (m′ + 4) (4 ∷ 1 ∷ 2 ∷ []) (m′ + 5) us)) at-head
 
-    holds′ : Holds (set (a .tables) v (r .pen .operators + 2)) (hold v (r .pen .operators + 2) (lifted e (q .operators) us))
+    holds′ :
+        Holds (set (a .tables) v (r .pen .operators + 2)) (hold v (r .pen .operators + 2) (lifted e (q .operators) us))
     holds′ =
         hold-holds (a .tables) (lifted e (q .operators) us) v (r .pen .operators + 2) inner
         (lifts-holds ts _ _ (set fs v false) _ _ _ a lift e h us others)
@@ -177,7 +180,8 @@ module _
 -- A branch of QI
 
 pub branch-made :
-    {d : Parsed} {l : ℕ} {ts : List ℕ} (fs : List Bool) {x y z : List ℕ} {p : Pen} {a : Lifted} {r : Output} → Free d fs →
+    {d : Parsed} {l : ℕ} {ts : List ℕ} (fs : List Bool) {x y z : List ℕ} {p : Pen} {a : Lifted} {r : Output} →
+    Free d fs →
     Lifts ts l (0 ∷ 1 ∷ 2 ∷ []) (flagged fs 8) x p y a → Makes d l (a .tables) y (a .pen) z r →
     (t : Tree d) (e : Tables) → Holds ts e → Ruled (branched (t .q) (p .operators) l e) (t .end) x p z r
 unfolding branched
@@ -197,7 +201,8 @@ choice-of c a b n l e =
     let x = branched a (m + 4) (m + 2) e in
     let j = next (m + 4) x in
     let y = branched b j (m + 3) e in
-    then (z .ops) (then (headI m l (z .result)) (then (x .ops) (then (y .ops) (choice (next j y) (x .result) (y .result)))))
+    then (z .ops) (then (headI m l (z .result))
+    (then (x .ops) (then (y .ops) (choice (next j y) (x .result) (y .result)))))
 
 -- the number after operators in two parts
 after-both : (i : ℕ) (os ps : List Op) → i + length (os ++ ps) ≡ i + length os + length ps

@@ -81,7 +81,8 @@ module _ {f g : Query → Query} (same : Alike1 f g) {d : Parsed} (a : Parsed) (
       record {
         operand = s .operand;
         room =
-            same-room (f (s .operand .q)) (h .tree .q) (same .count (s .operand .q) ∙ ap (λ (z : Query × ℕ). records (z .0)) (s .tree)) (h .room);
+            same-room (f (s .operand .q)) (h .tree .q)
+            (same .count (s .operand .q) ∙ ap (λ (z : Query × ℕ). records (z .0)) (s .tree)) (h .room);
       }
 
   pub one-makes :

@@ -3,8 +3,9 @@
 --     Two rd at, Three rd at      two trees, three, one after another, from an offset on
 --     Asked d p              there is a tree, and room for its operators: at most 37 for each of its records
 --     AskedOne, AskedTwo, AskedThree    the same of an expression's operands, the expression being f of them
---     Translates q next l ts x p y r    q's operators are written over x where p stands, under the loop's table l and the
---                            variables' tables ts; y is left, and r tells q's result, where writing stands, and next
+--     Translates q next l ts x p y r    q's operators are written over x where p stands, under the loop's table l and
+--                            the variables' tables ts; y is left, and r tells q's result, where writing stands, and
+--                            next
 --     Makes, MakesOne, MakesTwo, MakesThree    the same of what is read
 --     AskedBranch, MakesBranch    the same of a branch of QI: the variables free in it are lifted first
 use Prim.Native.Nat.{ℕ, _+_, _*_}
@@ -66,7 +67,8 @@ pub record MakesTwo
   pub made : (o : Two rd at) → Translates (f (o .a .q) (o .b .q)) (o .b .end) l ts x p y r
 
 pub record MakesThree
-    (f : Query → Query → Query → Query) (rd : ℕ → Parsed) (at l : ℕ) (ts x : List ℕ) (p : Pen) (y : List ℕ) (r : Output) :
+    (f : Query → Query → Query → Query) (rd : ℕ → Parsed) (at l : ℕ) (ts x : List ℕ) (p : Pen) (y : List ℕ)
+    (r : Output) :
     Type 0 where
   pub made : (o : Three rd at) → Translates (f (o .c .q) (o .a .q) (o .b .q)) (o .b .end) l ts x p y r
 

@@ -21,8 +21,8 @@ fn variable(tables: [usize; 8], v: usize, pen: Pen, next: usize) -> Output
     Output { table, pen, next }
 }
 
-// The plan of the expression at an offset, at most depth levels deep, under the loop's table l. An accepted query has an
-// expression there.
+// The plan of the expression at an offset, at most depth levels deep, under the loop's table l. An accepted query has
+// an expression there.
 pub fn expression(
     query: &[u8],
     at: usize,
@@ -33,7 +33,8 @@ pub fn expression(
     plan: &mut [u8],
 ) -> Output
     requires { ⌜ Asked (parse depth (now query) at) pen ⌝ }
-    ensures { λ r. ⌜ Makes (parse depth (now (query .entry)) at) l tables (now (plan .entry)) pen (now (plan .exit)) r ⌝ }
+    ensures { λ r. ⌜ Makes (parse depth (now (query .entry)) at) l tables (now (plan .entry)) pen (now (plan .exit))
+        r ⌝ }
 {
     let Reading::Sound(found) = queries::read(query, at) else {
         return variable(tables, 0, pen, at);

@@ -35,8 +35,8 @@ fn handed_up(checked: Checked) -> Translated
     }
 }
 
-// The plan of an accepted query, zeros after it; 2 at 0 over 512 operators, then 8 at 0 where it is longer than the lent
-// bytes.
+// The plan of an accepted query, zeros after it; 2 at 0 over 512 operators, then 8 at 0 where it is longer than the
+// lent bytes.
 fn whole(query: &[u8], plan: &mut [u8]) -> Translated
     requires { ⌜ Whole (now query) ⌝ }
     ensures { λ r. ⌜ Concludes (now (query .entry)) (now (plan .entry)) (now (plan .exit)) r ⌝ }

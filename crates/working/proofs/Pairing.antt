@@ -108,7 +108,8 @@ module _ (w : World) (rd : ℕ → Parsed) (at : ℕ) (b : Binding) (top room : 
       is (Stood.Items m j n) f xs u v =
           let first : row after top l ≡ xs = row-kept mid after (top + l) top l (omega arith) (h .kept) ∙ sym u in
           let size : l ≡ length xs = sym (ap length u ∙ wide) in
-          ap (λ (ys : List ℤ). done (record { first = ys; second = row after (top + l) m; count = max k (l + j) })) first
+          ap (λ (ys : List ℤ). done (record { first = ys; second = row after (top + l) m; count = max k (l + j) }))
+          first
           ∙ ap (λ (i : ℕ). done (record { first = xs; second = row after (top + l) m; count = max k (i + j) })) size
           ∙ ap (λ (o : Work Standing). work o (onto xs k)) v
       is (Stood.Full p) f xs u v = ap (λ (o : Work Standing). work o (onto xs k)) v

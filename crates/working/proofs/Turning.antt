@@ -1,5 +1,6 @@
 -- The turns of a `for`: what `turns` and `each_item` promise.
---     Turning ..          the loop's invariant: the turns that are left, behind the results so far, give what all turns give
+--     Turning ..          the loop's invariant: the turns that are left, behind the results so far, give what all turns
+--                         give
 --     turning-start       before the first turn
 --     turning-scoped      a turn's scope stands below its top
 --     turning-on          a turn whose results stand behind those so far
@@ -119,7 +120,8 @@ module _ (w : World) (t : Parsed) (v top room n count : ℕ) (s : Scope) (before
               let left : room - (top + n + got) ≡ room - top - (n + length results) = omega (arith, size) in
               let next : top + i + 1 ≡ top + (i + 1) = omega arith in
               let first : row before (top + i) (n - i) ≡ a ∷ others =
-              row-cons before (top + i) (n - i) (n - (i + 1)) (pos 0) (omega (arith, inv .above, inv .within)) (omega arith)
+              row-cons before (top + i) (n - i) (n - (i + 1)) (pos 0) (omega (arith, inv .above, inv .within))
+              (omega arith)
               ∙ ap (λ (j : ℕ). a ∷ row before j (n - (i + 1))) next in
               ap (λ (o : Work Standing). work o (onward (turn w e v (x .0)) most results others))
               (g .means (bind v (a ∷ []) e) holds x p .stands ∙ ap (λ (r : ℕ). turn w e v (x .0) r a) left)

@@ -4,13 +4,13 @@
 --     both w room e b p q        the evaluation of p, and of q behind it
 --     Is o e top cells r         answer r, read from the cells, is outcome o, and its tree ends at offset e
 --     IsPair o e top cells p     the same of two operands
---     Works w t top room s before after r    nothing below top has changed, and what r says fits the room; for every store
---                                that scope s holds, r is the evaluation of the tree that t gives
+--     Works w t top room s before after r    nothing below top has changed, and what r says fits the room; for every
+--                                store that scope s holds, r is the evaluation of the tree that t gives
 --     Branches b w t ..          the same of a tree that is worked out where b is true; else nothing changes
---     Pairs w rd at b top room s before after p    the same of two trees that rd gives one behind the other from `at` on;
---                                the second sees the items of the first in the variable of binding b
---     Turns w t v top room n count next s before after p    the same of the turns of a `for`: its body is the tree that t gives,
---                                and the n items from top on are those of its variable v, counted `count`
+--     Pairs w rd at b top room s before after p    the same of two trees that rd gives one behind the other from `at`
+--                                on; the second sees the items of the first in the variable of binding b
+--     Turns w t v top room n count next s before after p    the same of the turns of a `for`: its body is the tree that
+--                                t gives, and the n items from top on are those of its variable v, counted `count`
 use Prim.Native.Nat.{ℕ, _-_}
 use mathlib.Core.Path.{_≡_}
 use mathlib.Core.Bool.{Bool, true, false}

@@ -90,7 +90,8 @@ fn step(
 ) -> Stood
     requires { ⌜ Lent top room (now work) × Fit top room operand × Known (now doc) rows ⌝ }
     ensures { λ r. ⌜ Leaves top room
-        (stepped (worldOf (catalogueOf (now (doc .entry)) rows)) (room - top) at axis test (stood (now (work .entry)) top operand))
+        (stepped (worldOf (catalogueOf (now (doc .entry)) rows)) (room - top) at axis test
+        (stood (now (work .entry)) top operand))
         (Ends operand) (now (work .entry)) (now (work .exit)) r ⌝ }
 {
     let mut from = [false; 2048];
@@ -178,8 +179,8 @@ fn two(
     stack::beside(length, count, second)
 }
 
-// The turns of a `for`: its body for each of the n items from top on, each turn's results behind those so far. Every turn
-// works out the body once; a refusal ends them.
+// The turns of a `for`: its body for each of the n items from top on, each turn's results behind those so far. Every
+// turn works out the body once; a refusal ends them.
 fn turns(
     query: &[u8],
     doc: &[u8],
@@ -287,7 +288,8 @@ fn branch(
     room: usize,
 ) -> Stood
     requires { ⌜ Known (now doc) rows × Scoped top scope × Lent top room (now work) ⌝ }
-    ensures { λ r. ⌜ Branches chosen (worldOf (catalogueOf (now (doc .entry)) rows)) (parse depth (now (query .entry)) at)
+    ensures { λ r. ⌜ Branches chosen (worldOf (catalogueOf (now (doc .entry)) rows))
+        (parse depth (now (query .entry)) at)
         top room scope (now (work .entry)) (now (work .exit)) r ⌝ }
 {
     if chosen {

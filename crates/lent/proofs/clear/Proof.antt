@@ -13,7 +13,8 @@ use Rattle.lent.proofs.clear.Tie as tie
 
 abbrev Inv-loop : tie.InvT-loop
 Inv-loop work₀ from i₀ work i =
-    (from ≤ i) × (i ≤ length work₀) × (length work ≡ length work₀) × (work ≡ laid work₀ from (replicate (i - from) (pos 0)))
+    (from ≤ i) × (i ≤ length work₀) × (length work ≡ length work₀)
+    × (work ≡ laid work₀ from (replicate (i - from) (pos 0)))
 
 abbrev μ-loop : tie.MeasureT-loop
 μ-loop work₀ from i₀ work i = length work₀ - i

@@ -8,7 +8,8 @@ use Rattle.running.proofs.lay.Tie as tie
 
 -- the places on the way: the function's entry, the operator performed, its rows told
 abbrev start-of : tie.After-perform → tie.Start
-start-of c = c .before .before .before .before .before .before .before .before .before .before .before .before .before .before
+start-of c =
+    c .before .before .before .before .before .before .before .before .before .before .before .before .before .before
 
 abbrev perform-at : tie.After-width → tie.After-perform
 perform-at c = c .before .before .before .before .before .before .before .before .before .before .before
@@ -25,7 +26,8 @@ perform-requires c κs =
 width-requires : tie.Need-width-requires
 unfolding Served
 width-requires c κs =
-    let start = start-of (c .before .before .before .before .before .before .before .before .before .before) in
+    let made = c .before .before .before .before .before .before .before .before .before .before in
+    let start = start-of made in
     (_, _, _, start .pre .0 .0, start .pre .0 .1)
 
 enum-known-laid : tie.Need-enum-known-laid

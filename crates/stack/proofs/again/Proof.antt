@@ -13,8 +13,10 @@ sub-if1 c = search needs
 returns : tie.Need-returns
 returns c =
     let a = c .before in
+    let s = length-row (a .args .work .now) (a .args .start) (a .args .n)
+    (omega (arith, a .pre .0 .low, a .pre .0 .lent)) in
     leaves-crowded _ _ _ _ _ _ _ (a .pre .0)
-    (omega (arith, a .pre .0 .low, a .pre .0 .lent, length-row (a .args .work .now) (a .args .start) (a .args .n) (omega (arith, a .pre .0 .low, a .pre .0 .lent))))
+    (omega (arith, a .pre .0 .low, a .pre .0 .lent, s))
 
 copy-requires : tie.Need-copy-requires
 copy-requires c κs =
@@ -27,8 +29,10 @@ same-length c = search needs
 returns-2 : tie.Need-returns-2
 returns-2 c =
     let a = c .before .before .before .before in
-    let s = length-row (a .args .work .now) (a .args .start) (a .args .n) (omega (arith, a .pre .0 .low, a .pre .0 .lent)) in
-    leaves-added _ _ _ _ _ _ _ (a .pre .0) _ _ _ _ (omega (arith, c .before .before .before .if1 .left)) (c .before .copy .ensures) s (omega arith) (λ e h. h)
+    let s = length-row (a .args .work .now) (a .args .start) (a .args .n)
+    (omega (arith, a .pre .0 .low, a .pre .0 .lent)) in
+    leaves-added _ _ _ _ _ _ _ (a .pre .0) _ _ _ _ (omega (arith, c .before .before .before .if1 .left))
+    (c .before .copy .ensures) s (omega arith) (λ e h. h)
 
 pub again-spec : {M : Type 1} → statement M
 again-spec = tie.close (tie.spec sub-if1 returns copy-requires same-length returns-2)

@@ -16,7 +16,8 @@ join-requires c κs = fit-sums (c .before .args .top) _ (c .before .args .pair) 
 
 returns : tie.Need-returns
 unfolding applied
-returns c = λ w room f. leaves-as _ _ _ _ _ _ _ _ _ refl (sym (c .join .ensures)) (pair-stopped _ room _ _ _ (c .before .match .keys2))
+returns c = λ w room f.
+    leaves-as _ _ _ _ _ _ _ _ _ refl (sym (c .join .ensures)) (pair-stopped _ room _ _ _ (c .before .match .keys2))
 
 function-requires : tie.Need-function-requires
 function-requires c κs =
@@ -30,7 +31,8 @@ returns-2 : tie.Need-returns-2
 unfolding applied paired work
 returns-2 c = λ w room f.
     let p = c .before .before .before .before .pair .given in
-    leaves-pair _ room _ _ _ _ _ _ _ _ _ (p .1) (c .before .function .ensures w room (subst (FitPair _ room) (p .1) f .1))
+    leaves-pair _ room _ _ _ _ _ _ _ _ _ (p .1)
+    (c .before .function .ensures w room (subst (FitPair _ room) (p .1) f .1))
 
 pub apply-spec : {M : Type 1} → statement M
 apply-spec =

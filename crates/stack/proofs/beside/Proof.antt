@@ -11,7 +11,9 @@ enum-known-second : tie.Need-enum-known-second
 enum-known-second c = search needs
 
 add-larger : tie.Need-add-larger
-add-larger c = record { fits = subst (Adds (c .before .before .before .args .length)) (c .before .second .given .1) (c .before .before .before .pre) }
+add-larger c =
+    let start = c .before .before .before in
+    record { fits = subst (Adds (start .args .length)) (c .before .second .given .1) (start .pre) }
 
 larger-requires : tie.Need-larger-requires
 larger-requires c κs = search needs
@@ -26,7 +28,8 @@ returns : tie.Need-returns
 unfolding besiding
 returns c =
     let a = c .before .before .second .given .0 in
-    ap (λ (k : ℕ). Pair.Items (c .before .before .before .before .args .length) (a .0) k (a .1 .1 .0)) (c .larger .ensures)
+    let start = c .before .before .before .before in
+    ap (λ (k : ℕ). Pair.Items (start .args .length) (a .0) k (a .1 .1 .0)) (c .larger .ensures)
     ∙ sym (ap (besiding _ _) (c .before .before .second .given .1))
 
 returns-2 : tie.Need-returns-2

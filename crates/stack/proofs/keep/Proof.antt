@@ -16,8 +16,9 @@ use Rattle.stack.proofs.keep.Tie as tie
 -- the items of both operands stand within the cells
 fit :
     (c : tie.After-known-told) →
-    (c .before .pair .given .0 .0 + c .before .pair .given .0 .1 .0 ≤ c .before .pair .given .0 .1 .1 .0)
-    × (c .before .before .before .args .top + c .before .pair .given .0 .1 .1 .0 ≤ length (c .before .before .before .args .work .now))
+    let a = c .before .before .before .args in
+    let p = c .before .pair .given .0 in
+    (p .0 + p .1 .0 ≤ p .1 .1 .0) × (a .top + p .1 .1 .0 ≤ length (a .work .now))
 fit c = subst (FitPair _ _) (c .before .pair .given .1) (c .before .before .before .pre)
 
 enum-known-pair : tie.Need-enum-known-pair
@@ -28,7 +29,8 @@ join-requires c κs = fit-sums (c .before .args .top) _ (c .before .args .pair) 
 
 returns : tie.Need-returns
 unfolding kept
-returns c = λ room f. leaves-as _ _ _ _ _ _ _ _ _ refl (sym (c .join .ensures)) (pair-stopped _ room _ _ _ (c .before .match .keys2))
+returns c = λ room f.
+    leaves-as _ _ _ _ _ _ _ _ _ refl (sym (c .join .ensures)) (pair-stopped _ room _ _ _ (c .before .match .keys2))
 
 add-copy : tie.Need-add-copy
 add-copy c =
@@ -46,14 +48,16 @@ same-length c = search needs
 returns-2 : tie.Need-returns-2
 unfolding kept
 returns-2 c = λ room f.
-    let p = c .before .before .before .before .pair .given in
+    let at-pair = c .before .before .before .before in
+    let p = at-pair .pair .given in
     let h = fit (c .before .before .before) in
-    let a = c .before .before .before .before .before .before .args in
+    let a = at-pair .before .before .args in
     let s : length (row (a .work .now) (a .top + p .0 .0) (p .0 .1 .0)) ≡ p .0 .1 .0 =
     length-row _ _ _ (omega (arith, h .0, h .1)) in
     let g = subst (FitPair _ room) (p .1) f in
     leaves-pair _ room _ _ _ _ _ _ _ _ _ (p .1)
-    (leaves-laid _ _ _ _ _ _ _ _ _ (c .before .copy .ensures) (omega (arith, s, h .0, h .1)) s (omega (arith, g .0)) (g .1) (λ e d. d))
+    (leaves-laid _ _ _ _ _ _ _ _ _ (c .before .copy .ensures) (omega (arith, s, h .0, h .1)) s (omega (arith, g .0))
+    (g .1) (λ e d. d))
 
 pub keep-spec : {M : Type 1} → statement M
 keep-spec =

@@ -40,13 +40,15 @@ same-length c = search needs
 returns-2 : tie.Need-returns-2
 unfolding counted
 returns-2 c =
-    let a = c .before .before .before .before .before .before .before in
-    let o = c .before .before .before .before .before .operand .given in
+    let at-operand = c .before .before .before .before .before in
+    let a = at-operand .before .before in
+    let o = at-operand .operand .given in
     let f = subst (Fit (a .args .top) (a .args .room)) (o .1) (a .pre .1) in
     leaves-items _ _ _ _ _ _ _ _ _ _ (o .1)
     (leaves-as _ _ _ _ _ _ _ _ _
     (ap (λ (z : ℤ). raised (o .0 .1 .0) (adding (a .args .room - a .args .top) (a .args .at) 0 (z ∷ [])))
-    (toZ-ofZ (cast-put (c .before .before .before .before)) ∙ ap pos (sym (length-row _ _ _ (omega (arith, f .0, f .1, a .pre .0 .lent))))))
+    (toZ-ofZ (cast-put (c .before .before .before .before))
+    ∙ ap pos (sym (length-row _ _ _ (omega (arith, f .0, f .1, a .pre .0 .lent))))))
     (sym (c .raise .ensures)) (leaves-raised _ _ _ _ _ _ _ _ (omega (arith, f .1)) (c .before .before .put .ensures)))
 
 pub number-spec : {M : Type 1} → statement M

@@ -22,7 +22,8 @@ same-length c = search needs
 returns-2 : tie.Need-returns-2
 returns-2 c =
     let a = c .before in
-    leaves-added _ _ _ _ _ _ _ (a .pre) _ 1 1 _ (omega (arith, a .pre .low)) (put-at _ _ _ _ (toZ-ofZ (a .fits .cell)) (omega (arith, a .pre .low, a .pre .lent))) refl refl (λ e h. h)
+    leaves-added _ _ _ _ _ _ _ (a .pre) _ 1 1 _ (omega (arith, a .pre .low))
+    (put-at _ _ _ _ (toZ-ofZ (a .fits .cell)) (omega (arith, a .pre .low, a .pre .lent))) refl refl (λ e h. h)
 
 pub put-spec : {M : Type 1} → statement M
 put-spec = tie.close (tie.spec returns mul-cell slice-set-from-cell same-length returns-2)

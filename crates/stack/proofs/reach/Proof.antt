@@ -20,7 +20,9 @@ same-length c = search needs
 
 returns : tie.Need-returns
 unfolding catalogueOf
-returns c = reaches-not _ _ _ _ _ _ _ (c .before .before .before .before .mark .ensures (catalogueOf _ _) refl) (c .enum-told2 .given .1)
+returns c =
+    let marked = c .before .before .before .before in
+    reaches-not _ _ _ _ _ _ _ (marked .mark .ensures (catalogueOf _ _) refl) (c .enum-told2 .given .1)
 
 step-requires : tie.Need-step-requires
 step-requires c κs = search needs
@@ -34,7 +36,10 @@ same-length-3 c = search needs
 returns-2 : tie.Need-returns-2
 unfolding catalogueOf
 returns-2 c =
-    reaches-all _ _ _ _ _ _ _ _ _ (c .before .before .before .before .before .before .before .before .before .mark .ensures (catalogueOf _ _) refl) (c .before .before .before .before .before .enum-told .given .1) (c .before .before .step .ensures)
+    let told = c .before .before .before .before .before in
+    let marked = told .before .before .before .before in
+    reaches-all _ _ _ _ _ _ _ _ _ (marked .mark .ensures (catalogueOf _ _) refl) (told .enum-told .given .1)
+    (c .before .before .step .ensures)
 
 pub reach-spec : {M : Type 1} → statement M
 reach-spec =

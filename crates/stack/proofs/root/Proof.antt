@@ -37,9 +37,9 @@ same-length c = search needs
 returns-2 : tie.Need-returns-2
 unfolding rooted tried worldOf
 returns-2 c =
-    let f = c .before .before .before .before .found .given in
+    let at-found = c .before .before .before .before in
     leaves-gives _ _ _ _ _ _ _ _ _ _
-    (sym (c .before .before .before .before .before .before .root .ensures) ∙ ap tried (f .1))
+    (sym (at-found .before .before .root .ensures) ∙ ap tried (at-found .found .given .1))
     (leaves-as _ _ _ _ _ _ _ _ _
     (adding-as _ _ _ _ _ (toZ-ofZ (narrow (c .before .before .before)))) refl (c .before .put .ensures))
 

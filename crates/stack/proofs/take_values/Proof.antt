@@ -35,22 +35,26 @@ narrow c = search needs
 -- the cell at work is the next item
 item :
     (c : tie.In-loop Inv-loop μ-loop) →
-    getD (row (c .before .before .before .args .work .now) (c .before .before .before .args .top) (c .before .before .before .args .n)) (c .before .loop .i) (pos 0)
-    ≡ getD (c .before .loop .work) (c .before .before .before .args .top + c .before .loop .i) (pos 0)
+    let a = c .before .before .before in
+    let l = c .before .loop in
+    getD (row (a .args .work .now) (a .args .top) (a .args .n)) (l .i) (pos 0)
+    ≡ getD (l .work) (a .args .top + l .i) (pos 0)
 item c =
     let a = c .before .before .before in
     let l = c .before .loop in
     let v = l .inv .2 in
     getD-row (a .args .work .now) (a .args .top) (a .args .n) (l .i) (pos 0) (omega arith)
-    ∙ sym (getD-past (a .args .work .now) (a .args .top) (v .0) (a .args .top + l .i) (pos 0) (omega arith) (omega (arith, v .1 .long)))
+    ∙ sym (getD-past (a .args .work .now) (a .args .top) (v .0) (a .args .top + l .i) (pos 0) (omega arith)
+    (omega (arith, v .1 .long)))
     ∙ ap (λ (w : List ℤ). getD w (a .args .top + l .i) (pos 0)) (sym (v .2))
 
 -- its value
 value-is :
     (c : tie.After-value Inv-loop μ-loop) →
+    let at-loop = c .before .before .before in
+    let a = at-loop .before .before .args in
     tried (c .value .result)
-    ≡ World.value (catalogueOf (c .before .before .before .before .before .args .doc .now) (c .before .before .before .before .before .args .rows))
-    (getD (c .before .before .before .loop .work) (c .before .before .before .before .before .args .top + c .before .before .before .loop .i) (pos 0))
+    ≡ World.value (catalogueOf (a .doc .now) (a .rows)) (getD (at-loop .loop .work) (a .top + at-loop .loop .i) (pos 0))
 value-is c = c .value .ensures ∙ ap (World.value _) (toZ-ofZ (record { sfits = c .before .value-arg .given }))
 
 loop-holds : tie.Need-loop-holds Inv-loop μ-loop
@@ -80,13 +84,15 @@ same-length c = c .before .before .before .before .before .loop .inv .1
 returns : tie.Need-returns Inv-loop μ-loop
 unfolding worldOf tried
 returns c =
-    let a = c .before .before .before .before .before .before .before in
-    let l = c .before .before .before .before .before .loop in
+    let at-loop = c .before .before .before .before .before in
+    let a = at-loop .before .before in
+    let l = at-loop .loop in
     let v = l .inv .2 in
     let s = length-row (a .args .work .now) (a .args .top) (a .args .n) (omega arith) in (
       taking-stop _ _ _ _ (v .1) _ (pos 0) (omega arith) (item (c .before .before .before .before))
           (sym (value-is (c .before .before)) ∙ ap tried (c .enum-told .given .1)),
-      ap (take (a .args .top)) (v .2) ∙ take-laid (a .args .work .now) (a .args .top) (v .0) (a .args .top) (omega arith) (omega arith),
+      ap (take (a .args .top)) (v .2)
+          ∙ take-laid (a .args .work .now) (a .args .top) (v .0) (a .args .top) (omega arith) (omega arith),
     )
 
 add-cell : tie.Need-add-cell Inv-loop μ-loop
@@ -107,8 +113,10 @@ loop-less c = search needs
 loop-again : tie.Need-loop-again Inv-loop μ-loop
 unfolding worldOf tried
 loop-again c =
-    let a = c .before .before .before .before .before .before .before .before in
-    let l = c .before .before .before .before .before .before .loop in
+    let told = c .before .before .before in
+    let at-loop = told .before .before .before in
+    let a = at-loop .before .before in
+    let l = at-loop .loop in
     let v = l .inv .2 in
     let s = length-row (a .args .work .now) (a .args .top) (a .args .n) (omega arith) in
     let y = c .before .value2 .given in (
@@ -119,7 +127,8 @@ loop-again c =
         taking-more _ _ _ _ (v .1) _ (pos 0) (omega arith) (item (c .before .before .before .before .before)) (y .0 .0)
             (sym (value-is (c .before .before .before)) ∙ ap tried (y .1)),
         ap (set (l .work) (a .args .top + l .i)) (toZ-ofZ (narrow c))
-            ∙ set-more (a .args .work .now) (l .work) (a .args .top) (l .i) (v .0) (y .0 .0) (v .2) (v .1 .long) (omega arith),
+            ∙ set-more (a .args .work .now) (l .work) (a .args .top) (l .i) (v .0) (y .0 .0) (v .2) (v .1 .long)
+            (omega arith),
       ),
     )
 

@@ -27,8 +27,9 @@ same-length c = search needs
 returns-2 : tie.Need-returns-2
 unfolding valued
 returns-2 c = λ room f.
-    let a = c .before .before .before .before .before .before .before .before in
-    let o = c .before .before .before .before .before .operand .given in
+    let at-operand = c .before .before .before .before .before in
+    let a = at-operand .before .before .before in
+    let o = at-operand .operand .given in
     let h = subst (Fit (a .args .top) _) (o .1) (a .pre .1) in
     let g = subst (Fit (a .args .top) room) (o .1) f in
     let v = subst (Valued _ (a .args .top) (o .0 .0) _ _) (c .if1 .taken) (c .before .before .take-values .ensures) in
@@ -42,8 +43,9 @@ same-length-2 c = search needs
 returns-3 : tie.Need-returns-3
 unfolding valued
 returns-3 c = λ room f.
-    let a = c .before .before .before .before .before .before .before .before in
-    let o = c .before .before .before .before .before .operand .given in
+    let at-operand = c .before .before .before .before .before in
+    let a = at-operand .before .before .before in
+    let o = at-operand .operand .given in
     let v = subst (Valued _ (a .args .top) (o .0 .0) _ _) (c .if1 .left) (c .before .before .take-values .ensures) in
     leaves-items _ room _ _ _ _ _ _ _ _ (o .1) (leaves-fails-kept _ room _ _ _ _ _ _ (v .1) (v .0))
 

@@ -1,5 +1,5 @@
--- The cycle of the evaluator: the depth left falls from a record to its operands. Each member's part stands in a file of
--- its own.
+-- The cycle of the evaluator: the depth left falls from a record to its operands. Each member's part stands in a file
+-- of its own.
 pub mod Measures
 pub mod Two
 pub mod Turns
@@ -76,7 +76,8 @@ pub +branch+choice+each-item+turns+two+work-out-spec : {M : Type 1} → statemen
     (each-item-part.keep-requires t)
     (each-item-part.same-length-2 t)
     (each-item-part.returns-2 t))
-    (λ t. turns-lts.spec (turns-part.turns-callees t) (turns-at t) turns.Post turns-part.turns-Inv-loop turns-part.turns-μ-loop
+    (λ t. turns-lts.spec (turns-part.turns-callees t) (turns-at t) turns.Post turns-part.turns-Inv-loop
+    turns-part.turns-μ-loop
     (turns-part.add-base t)
     (turns-part.loop-holds t)
     (turns-part.add-bound t)

@@ -22,7 +22,8 @@ returns c = search needs
 returns-2 : tie.Need-returns-2
 returns-2 c =
     let a = c .before .before .before .before .args in
-    c .bound .ensures ∙ ap (λ (b : Binding). scoping (a .scope) b (a .start) (a .n)) (sym (c .before .before .binding .given .1))
+    c .bound .ensures ∙ ap (λ (b : Binding). scoping (a .scope) b (a .start) (a .n))
+    (sym (c .before .before .binding .given .1))
 
 pub inner-spec : {M : Type 1} → statement M
 inner-spec = tie.close (tie.spec enum-told enum-known-binding bound-requires returns returns-2)

@@ -49,5 +49,6 @@ module _ (t : ℕ) where
       let flags = lift .before .before in
       record {
         made = λ o e h.
-            branch-made (flags .free .result) (flags .free .ensures) (lift .lift .ensures) (body .expression .ensures) o e h;
+            branch-made (flags .free .result) (flags .free .ensures) (lift .lift .ensures) (body .expression .ensures) o
+            e h;
       }

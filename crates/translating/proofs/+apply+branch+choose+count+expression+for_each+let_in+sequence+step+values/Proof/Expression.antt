@@ -97,7 +97,8 @@ module _ (t : ℕ) where
       let a = start c .args in
       let r = c .before .before .before .read in
       let f = c .before .found .given in
-      kind-parses (a .query .now) (a .at) (a .depth) (a .pen) (start c .pre .1) (r .result) (r .ensures) (f .0 .0) (f .1) e
+      kind-parses (a .query .now) (a .at) (a .depth) (a .pen) (start c .pre .1) (r .result) (r .ensures) (f .0 .0)
+      (f .1) e
 
   -- its fields
   ranged : (c : Known t) {k : Record} → c .before .found .given .0 .0 .kind ≡ k → Ranged (Code.recordOf k)
@@ -105,14 +106,16 @@ module _ (t : ℕ) where
       let a = start c .args in
       let r = c .before .before .before .read in
       let f = c .before .found .given in
-      kind-ranged (a .query .now) (a .at) (a .depth) (a .pen) (start c .pre .1) (r .result) (r .ensures) (f .0 .0) (f .1) e
+      kind-ranged (a .query .now) (a .at) (a .depth) (a .pen) (start c .pre .1) (r .result) (r .ensures) (f .0 .0)
+      (f .1) e
 
   small : (c : Known t) {k : Record} → c .before .found .given .0 .0 .kind ≡ k → SmallLiteral k
   small c e =
       let a = start c .args in
       let r = c .before .before .before .read in
       let f = c .before .found .given in
-      kind-small (a .query .now) (a .at) (a .depth) (a .pen) (start c .pre .1) (r .result) (r .ensures) (f .0 .0) (f .1) e
+      kind-small (a .query .now) (a .at) (a .depth) (a .pen) (start c .pre .1) (r .result) (r .ensures) (f .0 .0) (f .1)
+      e
 
   pub read-requires : expression-lts.Need-read-requires (callees t) (expression-at t) expression.Post
   read-requires c κs = search needs
@@ -202,7 +205,8 @@ module _ (t : ℕ) where
       let a = start known .args in
       let rd = parse (a .depth - 1) (a .query .now) in (
         omega (arith, less known),
-        two-asked (record { count = λ a b. refl; plan = λ a b n l e. refl }) rd (known .before .found .given .0 .0 .next)
+        two-asked (record { count = λ a b. refl; plan = λ a b n l e. refl }) rd
+            (known .before .found .given .0 .0 .next)
             (kind-is known (told .enum-told3 .given .1)) (start known .pre .1),
       )
 
@@ -217,7 +221,8 @@ module _ (t : ℕ) where
       let a = start known .args in
       let rd = parse (a .depth - 1) (a .query .now) in (
         omega (arith, less known),
-        two-asked (record { count = λ a b. refl; plan = λ a b n l e. refl }) rd (known .before .found .given .0 .0 .next)
+        two-asked (record { count = λ a b. refl; plan = λ a b n l e. refl }) rd
+            (known .before .found .given .0 .0 .next)
             (kind-is known (told .kind4 .given .1)) (start known .pre .1),
       )
 
@@ -232,7 +237,8 @@ module _ (t : ℕ) where
       let a = start known .args in
       let rd = parse (a .depth - 1) (a .query .now) in (
         omega (arith, less known),
-        two-asked (record { count = λ a b. refl; plan = λ a b n l e. refl }) rd (known .before .found .given .0 .0 .next)
+        two-asked (record { count = λ a b. refl; plan = λ a b n l e. refl }) rd
+            (known .before .found .given .0 .0 .next)
             (kind-is known (told .kind5 .given .1)) (start known .pre .1),
       )
 
@@ -263,7 +269,8 @@ module _ (t : ℕ) where
       let a = start known .args in
       let rd = parse (a .depth - 1) (a .query .now) in (
         omega (arith, less known),
-        two-asked (record { count = λ a b. refl; plan = λ a b n l e. refl }) rd (known .before .found .given .0 .0 .next)
+        two-asked (record { count = λ a b. refl; plan = λ a b n l e. refl }) rd
+            (known .before .found .given .0 .0 .next)
             (kind-is known (told .kind6 .given .1)) (start known .pre .1),
       )
 

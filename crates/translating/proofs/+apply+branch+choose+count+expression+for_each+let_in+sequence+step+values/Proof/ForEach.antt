@@ -41,6 +41,17 @@ callees t = (
 )
 
 module _ (t : ℕ) where
+  -- the places on the way: the head written, the variables lifted
+  abbrev head-of :
+      for-each-lts.After-lift (callees t) (for-each-at t) for-each.Post →
+      for-each-lts.After-for-head (callees t) (for-each-at t) for-each.Post
+  head-of c = c .before .before .before .before .before .before
+
+  abbrev lift-of :
+      for-each-lts.After-expression2 (callees t) (for-each-at t) for-each.Post →
+      for-each-lts.After-lift (callees t) (for-each-at t) for-each.Post
+  lift-of c = c .before .before .before .before .before .before .before
+
   pub expression-requires : for-each-lts.Need-expression-requires (callees t) (for-each-at t) for-each.Post
   expression-requires c κs =
       let start = c .before .before .before in
@@ -68,7 +79,11 @@ module _ (t : ℕ) where
       let start = first .before .before .before .before in
       let a = start .args in
       let rd = parse (a .depth) (a .query .now) in
-      omega (arith, first-room (QF 0 (a .v)) (λ a b. refl) rd (a .at) (a .pen) (start .pre .1) (first .expression .ensures))
+      omega (
+        arith,
+        first-room (QF 0 (a .v)) (λ a b. refl) rd (a .at) (a .pen) (start .pre .1)
+            (first .expression .ensures),
+      )
 
   pub lift-requires : for-each-lts.Need-lift-requires (callees t) (for-each-at t) for-each.Post
   lift-requires c κs =
@@ -86,12 +101,16 @@ module _ (t : ℕ) where
   pub add-hold : for-each-lts.Need-add-hold (callees t) (for-each-at t) for-each.Post
   add-hold c =
       let lift = c .before .before .before in
-      let head = lift .before .before .before .before .before .before in
+      let head = head-of lift in
       let first = head .before .before .before .before .before in
       let start = first .before .before .before .before in
       let a = start .args in
       let rd = parse (a .depth) (a .query .now) in
-      omega (arith, first-room (QF 0 (a .v)) (λ a b. refl) rd (a .at) (a .pen) (start .pre .1) (first .expression .ensures))
+      omega (
+        arith,
+        first-room (QF 0 (a .v)) (λ a b. refl) rd (a .at) (a .pen) (start .pre .1)
+            (first .expression .ensures),
+      )
 
   pub hold-requires : for-each-lts.Need-hold-requires (callees t) (for-each-at t) for-each.Post
   hold-requires c κs = search needs
@@ -99,12 +118,16 @@ module _ (t : ℕ) where
   pub add-expression : for-each-lts.Need-add-expression (callees t) (for-each-at t) for-each.Post
   add-expression c =
       let lift = c .before .before .before .before .before in
-      let head = lift .before .before .before .before .before .before in
+      let head = head-of lift in
       let first = head .before .before .before .before .before in
       let start = first .before .before .before .before in
       let a = start .args in
       let rd = parse (a .depth) (a .query .now) in
-      omega (arith, first-room (QF 0 (a .v)) (λ a b. refl) rd (a .at) (a .pen) (start .pre .1) (first .expression .ensures))
+      omega (
+        arith,
+        first-room (QF 0 (a .v)) (λ a b. refl) rd (a .at) (a .pen) (start .pre .1)
+            (first .expression .ensures),
+      )
 
   pub expression-requires-2 : for-each-lts.Need-expression-requires-2 (callees t) (for-each-at t) for-each.Post
   expression-requires-2 c κs =
@@ -125,18 +148,22 @@ module _ (t : ℕ) where
   pub add-for-tail : for-each-lts.Need-add-for-tail (callees t) (for-each-at t) for-each.Post
   add-for-tail c =
       let body = c .before .before .before .before in
-      let lift = body .before .before .before .before .before .before .before in
-      let head = lift .before .before .before .before .before .before in
+      let lift = lift-of body in
+      let head = head-of lift in
       let first = head .before .before .before .before .before in
       let start = first .before .before .before .before in
       let a = start .args in
       let rd = parse (a .depth) (a .query .now) in
-      omega (arith, first-room (QF 0 (a .v)) (λ a b. refl) rd (a .at) (a .pen) (start .pre .1) (first .expression .ensures))
+      omega (
+        arith,
+        first-room (QF 0 (a .v)) (λ a b. refl) rd (a .at) (a .pen) (start .pre .1)
+            (first .expression .ensures),
+      )
 
   pub for-tail-requires : for-each-lts.Need-for-tail-requires (callees t) (for-each-at t) for-each.Post
   for-tail-requires c κs =
       let body = c .before .before .before .before in
-      let lift = body .before .before .before .before .before .before .before in
+      let lift = lift-of body in
       let others = lift .before .before in
       let head = others .before .before .before .before in
       let first = head .before .before .before .before .before in
@@ -154,8 +181,8 @@ module _ (t : ℕ) where
   same-length c =
       let tail = c .before .before in
       let body = tail .before .before .before .before .before in
-      let lift = body .before .before .before .before .before .before .before in
-      let head = lift .before .before .before .before .before .before in
+      let lift = lift-of body in
+      let head = head-of lift in
       let first = head .before .before .before .before .before in
       omega (
         arith,

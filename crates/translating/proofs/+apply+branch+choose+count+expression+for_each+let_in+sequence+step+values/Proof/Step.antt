@@ -22,8 +22,11 @@ callees t = (expression-below t, expression.Post, step-tail-reads.Asked, step-ta
 module _ (t : ℕ) where
   pub expression-requires : step-lts.Need-expression-requires (callees t) (step-at t) step.Post
   expression-requires c κs =
-      let start = c .before .before .before in
-      (omega (arith, start .pre .0), only-asked (QX 0 (start .args .axis) (start .args .test)) (λ a. refl) (start .pre .1))
+      let start = c .before .before .before in (
+        omega (arith, start .pre .0),
+        only-asked (QX 0 (start .args .axis) (start .args .test)) (λ a. refl)
+            (start .pre .1),
+      )
 
   pub step-tail-requires : step-lts.Need-step-tail-requires (callees t) (step-at t) step.Post
   step-tail-requires c κs =

@@ -42,5 +42,6 @@ module _ (t : ℕ) where
       let start = first .before .before .before .before in
       record {
         made = λ o e h.
-            one-made (tailD) (o .q) (start .args .l) e (first .expression .ensures .made o e h) (tail .data-tail .ensures);
+            one-made (tailD) (o .q) (start .args .l) e (first .expression .ensures .made o e h)
+            (tail .data-tail .ensures);
       }

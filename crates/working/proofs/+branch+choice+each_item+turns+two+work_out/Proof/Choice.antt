@@ -40,12 +40,23 @@ choice-callees t = (
 )
 
 module _ (t : ℕ) where
+  -- where the condition is told, where the function starts, and the condition worked out as the first branch is behind it
+  abbrev Told : Type 0
+  Told = choice-lts.After-known-told (choice-callees t) (choice-at t) choice.Post
+
+  abbrev start-of : Told → choice-lts.Start (choice-callees t) (choice-at t) choice.Post
+  start-of c = c .before .before .before .before .before .before .before .before
+
+  abbrev work-out-of :
+      choice-lts.After-branch (choice-callees t) (choice-at t) choice.Post →
+      choice-lts.After-work-out (choice-callees t) (choice-at t) choice.Post
+  work-out-of c = c .before .before .before .before .before .before .before .before .before .before .before .before .before .before
+
   -- the condition's items stand within the room
   fits :
-      (c : choice-lts.After-known-told (choice-callees t) (choice-at t) choice.Post) →
+      (c : Told) →
       (c .before .c .given .0 .0 ≤ c .before .c .given .0 .1 .0)
-      × (c .before .before .before .before .before .before .before .before .args .top + c .before .c .given .0 .1 .0 ≤
-      c .before .before .before .before .before .before .before .before .args .room)
+      × (start-of c .args .top + c .before .c .given .0 .1 .0 ≤ start-of c .args .room)
   fits c = subst (Fit _ _) (c .before .c .given .1) (c .before .before .before .before .work-out .ensures .fit)
 
   pub work-out-requires : choice-lts.Need-work-out-requires (choice-callees t) (choice-at t) choice.Post
@@ -67,7 +78,7 @@ module _ (t : ℕ) where
 
   pub add-end : choice-lts.Need-add-end (choice-callees t) (choice-at t) choice.Post
   add-end c =
-      let start = c .before .before .before .before .before .before .before .before in
+      let start = start-of c in
       let f = fits c in
       omega (arith, f .0, f .1, start .pre .1 .2 .lent)
 
@@ -123,7 +134,8 @@ module _ (t : ℕ) where
 
   pub branch-requires : choice-lts.Need-branch-requires (choice-callees t) (choice-at t) choice.Post
   branch-requires c κs =
-      let at-work-out = c .before .before .before .before .before .before .before .before .before .before .before .before .before in
+      let at-work-out =
+      c .before .before .before .before .before .before .before .before .before .before .before .before .before in
       let start = at-work-out .before .before .before .before in
       let p = start .pre in
       let w = at-work-out .work-out in (
@@ -139,7 +151,7 @@ module _ (t : ℕ) where
   pub branch-requires-2 : choice-lts.Need-branch-requires-2 (choice-callees t) (choice-at t) choice.Post
   branch-requires-2 c κs =
       let at-branch = c .before .before in
-      let at-work-out = at-branch .before .before .before .before .before .before .before .before .before .before .before .before .before .before in
+      let at-work-out = work-out-of at-branch in
       let start = at-work-out .before .before .before .before in
       let p = start .pre in
       let w = at-work-out .work-out in
@@ -169,7 +181,7 @@ module _ (t : ℕ) where
   same-length-3 c =
       let at-branch2 = c .before .before .before .before in
       let at-branch = at-branch2 .before .before .before in
-      let at-work-out = at-branch .before .before .before .before .before .before .before .before .before .before .before .before .before .before in
+      let at-work-out = work-out-of at-branch in
       omega (
         arith,
         at-work-out .work-out .kept .1 .1 .1 .1 .1 .1 .0,

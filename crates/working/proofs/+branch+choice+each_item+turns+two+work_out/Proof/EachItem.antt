@@ -30,12 +30,18 @@ each-item-callees t = (
 )
 
 module _ (t : ℕ) where
+  -- where a is told, and where the function starts
+  abbrev Told : Type 0
+  Told = each-item-lts.After-known-told (each-item-callees t) (each-item-at t) each-item.Post
+
+  abbrev start-of : Told → each-item-lts.Start (each-item-callees t) (each-item-at t) each-item.Post
+  start-of c = c .before .before .before .before .before .before .before .before
+
   -- a's items stand within the room
   fits :
-      (c : each-item-lts.After-known-told (each-item-callees t) (each-item-at t) each-item.Post) →
+      (c : Told) →
       (c .before .a .given .0 .0 ≤ c .before .a .given .0 .1 .0)
-      × (c .before .before .before .before .before .before .before .before .args .top + c .before .a .given .0 .1 .0
-      ≤ c .before .before .before .before .before .before .before .before .args .room)
+      × (start-of c .args .top + c .before .a .given .0 .1 .0 ≤ start-of c .args .room)
   fits c = subst (Fit _ _) (c .before .a .given .1) (c .before .before .before .before .work-out .ensures .fit)
 
   pub work-out-requires : each-item-lts.Need-work-out-requires (each-item-callees t) (each-item-at t) each-item.Post

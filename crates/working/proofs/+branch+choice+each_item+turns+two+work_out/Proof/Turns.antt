@@ -47,12 +47,15 @@ module _ (t : ℕ) where
   abbrev start : Turned → turns-lts.Start (turns-callees t) (turns-at t) turns.Post turns-Inv-loop turns-μ-loop
   start c = c .before .before .before .before .before .before .before .before .before .before .before
 
+  abbrev loop-of : Turned → turns-lts.At-loop (turns-callees t) (turns-at t) turns.Post turns-Inv-loop turns-μ-loop
+  loop-of c = c .before .before .before .before .before .before .before .before
+
   -- the results of a turn stand within the room
   turn-fits :
       (c : Turned) →
       (c .before .turn .given .0 .0 ≤ c .before .turn .given .0 .1 .0)
       × (start c .args .top + start c .args .n +
-      c .before .before .before .before .before .before .before .before .loop .done + c .before .turn .given .0 .1 .0
+      loop-of c .loop .done + c .before .turn .given .0 .1 .0
       ≤ start c .args .room)
   turn-fits c = subst (Fit _ _) (c .before .turn .given .1)
       (c .before .before .before .before .work-out .ensures .fit)
@@ -142,7 +145,7 @@ module _ (t : ℕ) where
 
   pub add-larger : turns-lts.Need-add-larger (turns-callees t) (turns-at t) turns.Post turns-Inv-loop turns-μ-loop
   add-larger c =
-      let at-loop = c .before .before .before .before .before .before .before .before in
+      let at-loop = loop-of c in
       let start-of = at-loop .before .before .before in
       let p = start-of .pre in
       let inv = at-loop .loop .inv in
@@ -150,7 +153,7 @@ module _ (t : ℕ) where
 
   pub add-larger-2 : turns-lts.Need-add-larger-2 (turns-callees t) (turns-at t) turns.Post turns-Inv-loop turns-μ-loop
   add-larger-2 c =
-      let at-loop = c .before .before .before .before .before .before .before .before in
+      let at-loop = loop-of c in
       let start-of = at-loop .before .before .before in
       let p = start-of .pre in
       let f = turn-fits c in
@@ -164,7 +167,7 @@ module _ (t : ℕ) where
   pub add-done : turns-lts.Need-add-done (turns-callees t) (turns-at t) turns.Post turns-Inv-loop turns-μ-loop
   add-done c =
       let turned = c .before in
-      let at-loop = turned .before .before .before .before .before .before .before .before in
+      let at-loop = loop-of turned in
       let start-of = at-loop .before .before .before in
       let p = start-of .pre in
       let f = turn-fits (turned) in

@@ -25,13 +25,18 @@ two-callees t = (
 )
 
 module _ (t : ℕ) where
+  -- where the first operand is told, and where the function starts
+  abbrev Told : Type 0
+  Told = two-lts.After-known-told (two-callees t) (two-at t) two.Post
+
+  abbrev start-of : Told → two-lts.Start (two-callees t) (two-at t) two.Post
+  start-of c = c .before .before .before .before .before .before .before .before
+
   -- the first operand's items stand within the room
   fits :
-      (c : two-lts.After-known-told (two-callees t) (two-at t) two.Post) →
+      (c : Told) →
       (c .before .first .given .0 .0 ≤ c .before .first .given .0 .1 .0)
-      × (c .before .before .before .before .before .before .before .before .args .top +
-      c .before .first .given .0 .1 .0
-      ≤ c .before .before .before .before .before .before .before .before .args .room)
+      × (start-of c .args .top + c .before .first .given .0 .1 .0 ≤ start-of c .args .room)
   fits c = subst (Fit _ _) (c .before .first .given .1) (c .before .before .before .before .work-out .ensures .fit)
 
   pub work-out-requires : two-lts.Need-work-out-requires (two-callees t) (two-at t) two.Post
@@ -64,7 +69,7 @@ module _ (t : ℕ) where
   pub add-work-out : two-lts.Need-add-work-out (two-callees t) (two-at t) two.Post
   add-work-out c =
       let at-known-told = c .before .before in
-      let start = at-known-told .before .before .before .before .before .before .before .before in
+      let start = start-of at-known-told in
       let f = fits at-known-told in
       omega (arith, f .0, f .1, start .pre .1 .2 .lent)
 

@@ -163,8 +163,7 @@ module _ (t : ℕ) where
 
   pub put-requires : work-out-lts.Need-put-requires (work-out-callees t) (work-out-at t) work-out.Post
   put-requires c κs =
-      let start-of = c .before .before .before .before .before .before .before .before .before .before .before .before
-      in
+      let start-of = start (c .before .before .before .before .before) in
       start-of .pre .1 .2
 
   pub enum-told-2 : work-out-lts.Need-enum-told-2 (work-out-callees t) (work-out-at t) work-out.Post
@@ -178,7 +177,7 @@ module _ (t : ℕ) where
   root-requires c κs =
       let at-kind2 = c .before .before in
       let found = at-kind2 .before .before in
-      let start-of = found .before .before .before .before .before .before .before in
+      let start-of = start found in
       let p = start-of .pre in
       let r = ranged found _ (at-kind2 .kind2 .given .1) in
       (p .1 .0 .there, omega (arith, p .1 .0 .few), r .0, p .1 .2)
@@ -191,7 +190,7 @@ module _ (t : ℕ) where
   variable-requires c κs =
       let at-kind3 = c .before .before in
       let found = at-kind3 .before .before in
-      let start-of = found .before .before .before .before .before .before .before in
+      let start-of = start found in
       let p = start-of .pre in
       (ranged found _ (at-kind3 .kind3 .given .1), p .1 .1, p .1 .2)
 
@@ -201,14 +200,14 @@ module _ (t : ℕ) where
   pub two-requires : work-out-lts.Need-two-requires (work-out-callees t) (work-out-at t) work-out.Post
   two-requires c κs =
       let found = c .before .before .before in
-      let start-of = found .before .before .before .before .before .before .before in
+      let start-of = start found in
       let p = start-of .pre in
       (omega (arith, less found), (p .1 .0, p .1 .1, p .1 .2, tt))
 
   pub join-requires : work-out-lts.Need-join-requires (work-out-callees t) (work-out-at t) work-out.Post
   join-requires c κs =
       let at-two = c .before in
-      let start-of = at-two .before .before .before .before .before .before .before .before .before .before .before in
+      let start-of = start (at-two .before .before .before .before) in
       fit-sums (start-of .args .top) (start-of .args .room) (at-two .two .result) (at-two .two .ensures .fit)
 
   pub enum-known-kind-4 : work-out-lts.Need-enum-known-kind-4 (work-out-callees t) (work-out-at t) work-out.Post
@@ -219,14 +218,14 @@ module _ (t : ℕ) where
   two-requires-2 c κs =
       let at-kind4 = c .before .before in
       let found = at-kind4 .before .before in
-      let start-of = found .before .before .before .before .before .before .before in
+      let start-of = start found in
       let p = start-of .pre in
       (omega (arith, less found), (p .1 .0, p .1 .1, p .1 .2, ranged found _ (at-kind4 .kind4 .given .1)))
 
   pub keep-requires : work-out-lts.Need-keep-requires (work-out-callees t) (work-out-at t) work-out.Post
   keep-requires c κs =
       let at-two2 = c .before .before in
-      let start-of = at-two2 .before .before .before .before .before .before .before .before .before .before .before .before in
+      let start-of = start (at-two2 .before .before .before .before .before) in
       let s = start-of in
       let u = at-two2 .two2 in
       fit-pair-wider (s .args .top) (s .args .room) (length (u .last .1 .1 .1 .1 .1 .1 .1 .0)) (u .result)
@@ -240,7 +239,7 @@ module _ (t : ℕ) where
   each-item-requires c κs =
       let at-kind5 = c .before .before in
       let found = at-kind5 .before .before in
-      let start-of = found .before .before .before .before .before .before .before in
+      let start-of = start found in
       let p = start-of .pre in
       (omega (arith, less found), (p .1 .0, p .1 .1, p .1 .2, ranged found _ (at-kind5 .kind5 .given .1)))
 
@@ -250,7 +249,7 @@ module _ (t : ℕ) where
   pub choice-requires : work-out-lts.Need-choice-requires (work-out-callees t) (work-out-at t) work-out.Post
   choice-requires c κs =
       let found = c .before .before .before in
-      let start-of = found .before .before .before .before .before .before .before in
+      let start-of = start found in
       let p = start-of .pre in
       (omega (arith, less found), (p .1 .0, p .1 .1, p .1 .2))
 
@@ -260,14 +259,14 @@ module _ (t : ℕ) where
   pub two-requires-3 : work-out-lts.Need-two-requires-3 (work-out-callees t) (work-out-at t) work-out.Post
   two-requires-3 c κs =
       let found = c .before .before .before .before in
-      let start-of = found .before .before .before .before .before .before .before in
+      let start-of = start found in
       let p = start-of .pre in
       (omega (arith, less found), (p .1 .0, p .1 .1, p .1 .2, tt))
 
   pub apply-requires : work-out-lts.Need-apply-requires (work-out-callees t) (work-out-at t) work-out.Post
   apply-requires c κs =
       let at-two3 = c .before .before in
-      let start-of = at-two3 .before .before .before .before .before .before .before .before .before .before .before .before in
+      let start-of = start (at-two3 .before .before .before .before .before) in
       let s = start-of in
       let u = at-two3 .two3 in
       fit-pair-wider (s .args .top) (s .args .room) (length (u .last .1 .1 .1 .1 .1 .1 .1 .0)) (u .result)
@@ -279,14 +278,14 @@ module _ (t : ℕ) where
   pub work-out-requires : work-out-lts.Need-work-out-requires (work-out-callees t) (work-out-at t) work-out.Post
   work-out-requires c κs =
       let found = c .before .before .before in
-      let start-of = found .before .before .before .before .before .before .before in
+      let start-of = start found in
       let p = start-of .pre in
       (omega (arith, less found), (p .1 .0, p .1 .1, p .1 .2))
 
   pub number-requires : work-out-lts.Need-number-requires (work-out-callees t) (work-out-at t) work-out.Post
   number-requires c κs =
       let at-work-out = c .before .before in
-      let start-of = at-work-out .before .before .before .before .before .before .before .before .before .before .before in
+      let start-of = start (at-work-out .before .before .before .before) in
       let p = start-of .pre in
       let u = at-work-out .work-out in (
         record { low = p .1 .2 .low; lent = omega (arith, u .kept .1 .1 .1 .1 .1 .1 .0, p .1 .2 .lent) },
@@ -299,14 +298,14 @@ module _ (t : ℕ) where
   pub work-out-requires-2 : work-out-lts.Need-work-out-requires-2 (work-out-callees t) (work-out-at t) work-out.Post
   work-out-requires-2 c κs =
       let found = c .before .before .before in
-      let start-of = found .before .before .before .before .before .before .before in
+      let start-of = start found in
       let p = start-of .pre in
       (omega (arith, less found), (p .1 .0, p .1 .1, p .1 .2))
 
   pub values-requires : work-out-lts.Need-values-requires (work-out-callees t) (work-out-at t) work-out.Post
   values-requires c κs =
       let at-work-out2 = c .before .before in
-      let start-of = at-work-out2 .before .before .before .before .before .before .before .before .before .before .before in
+      let start-of = start (at-work-out2 .before .before .before .before) in
       let s = start-of in
       let u = at-work-out2 .work-out2 in (
         s .pre .1 .0 .there,
@@ -320,14 +319,14 @@ module _ (t : ℕ) where
   pub work-out-requires-3 : work-out-lts.Need-work-out-requires-3 (work-out-callees t) (work-out-at t) work-out.Post
   work-out-requires-3 c κs =
       let found = c .before .before .before .before in
-      let start-of = found .before .before .before .before .before .before .before in
+      let start-of = start found in
       let p = start-of .pre in
       (omega (arith, less found), (p .1 .0, p .1 .1, p .1 .2))
 
   pub step-requires : work-out-lts.Need-step-requires (work-out-callees t) (work-out-at t) work-out.Post
   step-requires c κs =
       let at-work-out3 = c .before .before in
-      let start-of = at-work-out3 .before .before .before .before .before .before .before .before .before .before .before .before in
+      let start-of = start (at-work-out3 .before .before .before .before .before) in
       let p = start-of .pre in
       let u = at-work-out3 .work-out3 in (
         record { low = p .1 .2 .low; lent = omega (arith, u .kept .1 .1 .1 .1 .1 .1 .0, p .1 .2 .lent) },
@@ -352,7 +351,7 @@ module _ (t : ℕ) where
   unfolding evaluate trees recordOf
   returns-4 c =
       let found = c .before .before in
-      let start-of = found .before .before .before .before .before .before .before in
+      let start-of = start found in
       works-leaf _ _ _ _ _ _ _ _ (QE _) _ _ (tree found _ (c .enum-told2 .given .1))
       (leaves-none _ _ _ _ (start-of .pre .1 .2 .low)) (λ e h. refl)
 
