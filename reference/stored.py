@@ -1,12 +1,14 @@
-"""Cases as files keep them: the bytes, and what a program must print of each.
+"""Cases as files keep them: the bytes, and what program `stored` must print of each.
 
-The two checks have one file, crates/vectors; each engine and the printing program have one of their own. There a
-group is its number of cases (1 byte, never 0), then what its cases share, then what each case has of its own:
+crates/stored/data has five files of cases: the two checks share one, each engine, the translator and the printing
+program have one of their own. crates/stored/stdout has a heading for each file, and under it what is printed of its
+cases. In checks.bin a case is a byte for the call, then a byte string. In the others a group is its number of cases
+(1 byte, never 0), then what its cases share, then what each case has of its own:
 
-    evaluate     query, catalogue; of its own: the lent cells
-    run          plan, catalogue; of its own: the lent cells
-    translate    query; of its own: the lent bytes
-    chartask     catalogue; of its own: the query
+    evaluations.bin      query, catalogue; of its own: the lent cells
+    translations.bin     query; of its own: the lent bytes
+    runs.bin             plan, catalogue; of its own: the lent cells
+    texts.bin            catalogue; of its own: the query
 
 A byte string has its length (2 bytes) before it; lent cells or bytes are a number of 4 bytes. All numbers are
 big-endian. Every lent cell or byte holds 9 before the call.
@@ -17,11 +19,13 @@ from itertools import groupby, islice
 
 import generate
 
-CRATES = pathlib.Path(__file__).resolve().parent.parent / "crates"
-CRATE_OF = {"check_catalogue": "vectors", "check_query": "vectors", "evaluate": "evaluations", "run": "runs",
-            "translate": "translations", "chartask": "tellings"}
+CRATE = pathlib.Path(__file__).resolve().parent.parent / "crates" / "stored"
+FILES = ("checks", "evaluations", "translations", "runs", "texts")
+FILE_OF = {"check_catalogue": "checks", "check_query": "checks", "evaluate": "evaluations",
+           "translate": "translations", "run": "runs", "chartask": "texts"}
 CHECKS = {"check_catalogue": 1, "check_query": 2}
-SHARED = {"evaluate": 2, "run": 2, "translate": 1, "chartask": 1}
+SHARED = {"evaluate": 2, "translate": 1, "run": 2, "chartask": 1}
+HEADING = "== "
 MOST_IN_A_GROUP = 255
 
 MULTIPLIER = 65599
@@ -66,7 +70,7 @@ def line(call, answer):
 
 
 def line_of_check(call, answer):
-    """What crates/vectors prints of a case."""
+    """What is printed of a case of the two checks."""
     word, figure = ("catalogue", "rows") if call == "check_catalogue" else ("query", "records")
     if answer.refusal:
         return f"{word} refused {answer.refusal} at {answer.place}\n"
@@ -74,7 +78,7 @@ def line_of_check(call, answer):
 
 
 def printed(call, answer, number):
-    """What a program prints of its case number so and so, counted from 1."""
+    """What is printed of case number so and so of a file, counted from 1."""
     if call in CHECKS:
         return line_of_check(call, answer)
     return f"case {number}\n{answer}" if call == "chartask" else line(call, answer)
@@ -107,15 +111,25 @@ def kept_check(case):
     return bytes([CHECKS[case.call]]) + kept(case.given[0])
 
 
-def write(crate, cases):
-    """The crate's data/cases.bin and stdout; says how many cases and bytes there are."""
-    data = CRATES / crate / "data"
-    data.mkdir(parents=True, exist_ok=True)
+def sections():
+    """What stdout has under each file's heading; nothing where there is no such heading yet."""
+    texts = dict.fromkeys(FILES, "")
+    if (CRATE / "stdout").exists():
+        for section in (CRATE / "stdout").read_text().split(HEADING)[1:]:
+            name, _, text = section.partition("\n")
+            texts[name] = text
+    return texts
+
+
+def write(name, cases):
+    """The file of that name, and what stdout has under its heading; says how many cases and bytes there are."""
+    (CRATE / "data").mkdir(parents=True, exist_ok=True)
     parts = map(kept_check, cases) if cases[0].call in CHECKS else groups(cases)
-    size = (data / "cases.bin").write_bytes(b"".join(parts))
+    size = (CRATE / "data" / f"{name}.bin").write_bytes(b"".join(parts))
     lines = (printed(case.call, case.answer, number) for number, case in enumerate(cases, 1))
-    (CRATES / crate / "stdout").write_text("".join(lines))
-    return f"crates/{crate}: {len(cases)} cases, {size} bytes"
+    texts = sections() | {name: "".join(lines)}
+    (CRATE / "stdout").write_text("".join(f"{HEADING}{one}\n{texts[one]}" for one in FILES))
+    return f"{name}: {len(cases)} cases, {size} bytes"
 
 
 # Read back.
@@ -153,9 +167,9 @@ def read_groups(call, reading):
             yield call, (*shared, reading.string() if call == "chartask" else reading.number(4))
 
 
-def read_texts(call, path):
+def read_texts(call):
     """What is printed of each case."""
-    text = path.read_text()
+    text = sections()[FILE_OF[call]]
     if call != "chartask":
         return text.splitlines(keepends=True)
     return ["case " + one for one in text.split("case ")[1:]]
@@ -163,14 +177,13 @@ def read_texts(call, path):
 
 def read(call):
     """Every stored case of a call: what is given, what is printed, and its number in its file."""
-    crate = CRATES / CRATE_OF[call]
-    reading = Reading(crate / "data" / "cases.bin")
+    reading = Reading(CRATE / "data" / f"{FILE_OF[call]}.bin")
     cases = read_checks(reading) if call in CHECKS else read_groups(call, reading)
-    texts = read_texts(call, crate / "stdout")
+    texts = read_texts(call)
     stored = zip(cases, texts, range(1, len(texts) + 1), strict=True)
     return [(given, text, number) for (its_call, given), text, number in stored if its_call == call]
 
 
 def printed_now(call, given, number):
-    """What the model has a program print now."""
+    """What the model has the program print now."""
     return printed(call, generate.CALLS[call](*given), number)

@@ -1,7 +1,7 @@
-"""Writes the cases that the project's programs are run on, and what each must print.
+"""Writes the cases that program `stored` is run on, and what it must print.
 
-    python3 reference/vectors.py                the two checks, crates/vectors
-    python3 reference/vectors.py evaluate       crates/evaluations; likewise run, translate and chartask
+    python3 reference/vectors.py                the two checks: checks.bin, and its part of stdout
+    python3 reference/vectors.py evaluate       evaluations.bin and its part; likewise translate, run and chartask
     python3 reference/vectors.py all            all of these
     python3 reference/vectors.py faults         plants the faults and tries them on the files as they stand
     python3 reference/vectors.py order          the faults of order: how many stored texts tell, and how many shuffled runs
@@ -98,7 +98,7 @@ def cases(call):
 
 def write_checks():
     """The two checks share a file."""
-    return stored.write("vectors", [case for call in stored.CHECKS for case in cases(call)])
+    return stored.write("checks", [case for call in stored.CHECKS for case in cases(call)])
 
 
 def tells(call, given, text, number):
@@ -129,7 +129,7 @@ def told_in_a_plain_run(fault, kept):
 
 def plant_faults():
     """A line for each fault that no stored case tells of, and last how many are caught."""
-    kept = {call: stored.read(call) for call in stored.CRATE_OF}
+    kept = {call: stored.read(call) for call in stored.FILE_OF}
     for call, its_cases in kept.items():
         wrong = [number for given, text, number in its_cases if stored.printed_now(call, given, number) != text]
         yield f"{call}: {len(its_cases)} stored cases, {len(wrong)} of them not as the model prints them"
@@ -167,7 +167,7 @@ def report(what):
         yield write_checks()
     for call in stored.SHARED:
         if what in (call, "all"):
-            yield stored.write(stored.CRATE_OF[call], cases(call))
+            yield stored.write(stored.FILE_OF[call], cases(call))
 
 
 def main(arguments):

@@ -4,6 +4,17 @@ ghost use mathlib.Core.Path.{_≡_};
 ghost use lib.ListN.{length};
 use libc::STDOUT_FILENO;
 
+// Opens a file of cases and prints its heading; below 0 where there is no such file.
+pub fn opened(path: &[u8], heading: &[u8]) -> i32 {
+    let fd = os::open_read(path);
+    if fd < 0 {
+        os::fail(path);
+        return fd;
+    }
+    io::write_all(STDOUT_FILENO, heading);
+    fd
+}
+
 fn wide(b: u8) -> usize
     ensures { λ r. ⌜ r < 256 ⌝ }
 {

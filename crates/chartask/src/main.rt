@@ -1,9 +1,11 @@
-// Program `chartask`: what both engines make of the query in `query.bin` over the catalogue in `doc.bin`, and whether they agree.
+// Program `chartask`: what both engines make of the query in `query.bin` over the catalogue in `doc.bin`, and whether
+// they agree.
 ghost use Prim.Native.Nat.{_≤_};
 ghost use lib.ListN.{length};
 use libc::STDOUT_FILENO;
 
-// Reads a file to the start of `space`, no further than that is long, and answers how many bytes it read. A missing file is empty.
+// Reads a file to the start of `space`, no further than that is long, and answers how many bytes it read. A missing
+// file is empty.
 fn load(path: &[u8], space: &mut [u8]) -> usize
     ensures { λ r. ⌜ r ≤ length (now (space .exit)) ⌝ }
 {

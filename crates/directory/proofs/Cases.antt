@@ -55,7 +55,8 @@ module _ (dir : List ℕ) where
   Known None = Unit {0}
   Known (Of t u) = (3 * t + 3 ≤ length dir) × (3 * u + 3 ≤ length dir) × (wide dir t ≤ 6) × (wide dir u ≤ 6)
 
-  known : (plan : List ℕ) (n top : ℕ) (o : Operator) (q : Operands) → Listed dir n top → SoundOf plan dir n o q → Known q
+  known :
+      (plan : List ℕ) (n top : ℕ) (o : Operator) (q : Operands) → Listed dir n top → SoundOf plan dir n o q → Known q
   unfolding SoundOf
   known plan n top o None l s = tt
   known plan n top o (Of t u) l s =

@@ -4,8 +4,8 @@
 --     stand-entered, stand-kept        what is entered stands there; the tables before it stand as they did
 --     tables-kept, widths-kept         .. so the tables and widths before it are as they were
 --     tables-laid                      laying cells behind the tables changes none of them
---     Entry                            what the directory says once an operator has laid its table
---     laid-entry                       .. follows from what the operator owes
+--     entry                            what the directory says once an operator has laid its table follows from what
+--                                      the operator owes
 use Prim.Native.Nat.{ℕ, zero, suc, _+_, _*_, _≤_, _<_}
 use mathlib.Core.Path.{_≡_, refl, sym, ap, ap₂, _∙_, subst}
 use mathlib.Core.List.{List, [], _∷_, _++_, append-nil, append-assoc}
@@ -27,7 +27,7 @@ use Rattle.meaning.specs.Operators.{Table, tableOf}
 use Rattle.tables.specs.declared.Stand.{Stand}
 use Rattle.tables.specs.declared.Laid.the-variants.{Rows}
 use Rattle.tables.specs.Layout.{tableAt, Inside, Owes}
-use Rattle.directory.specs.Directory.{standAt, entered, tablesIn, widthsIn, Listed, EndToEnd}
+use Rattle.directory.specs.Directory.{standAt, stand, entered, tablesIn, widthsIn, Listed, EndToEnd, Entry}
 
 -- a member of a list that grew by one
 module _ {A : Type 0} (xs : List A) (x d : A) where
@@ -45,9 +45,6 @@ below-or t n h = by-test (ltb t n) refl
     by-test false e = let k = ltb-false t n e in inr (omega arith)
 
 -- two stands with equal numbers
-abbrev stand : ℕ → ℕ → ℕ → Stand
-stand a n w = record { at = a; rows = n; width = w }
-
 stand-is : {a n w : ℕ} {s : Stand} → a ≡ s .at → n ≡ s .rows → w ≡ s .width → stand a n w ≡ s
 stand-is {w = w} {s = s} p q r = ap₂ (λ (x y : ℕ). stand x y w) p q ∙ ap (stand (s .at) (s .rows)) r
 
@@ -106,7 +103,8 @@ module _ (dir : List ℕ) (t : ℕ) (s : Stand) where
 
   pub stand-kept : (i : ℕ) → i < t → standAt (entered dir t s) i ≡ standAt dir i
   unfolding standAt entered
-  stand-kept i h = stand-is (kept (3 * i) (omega arith)) (kept (3 * i + 1) (omega arith)) (kept (3 * i + 2) (omega arith))
+  stand-kept i h =
+      stand-is (kept (3 * i) (omega arith)) (kept (3 * i + 1) (omega arith)) (kept (3 * i + 2) (omega arith))
     where
       kept : (j : ℕ) → j < 3 * t → getD (entered dir t s) j 0 ≡ getD dir j 0
       kept j k =
@@ -153,19 +151,6 @@ gather-more : {A B : Type 0} (f : A → List B) (xs : List A) (x : A) → gather
 unfolding gather
 gather-more f [] x = append-nil (f x)
 gather-more f (y ∷ xs) x = ap (f y ++_) (gather-more f xs x) ∙ sym (append-assoc (f y) (gather f xs) (f x))
-
--- once an operator has laid its table behind those that are listed, and it is entered
-pub record Entry (room at w k : ℕ) (made : Attempt Table) (xs ys : List ℤ) (dir : List ℕ) (n : ℕ) : Type 0 where
-  pub table : Table
-  pub made-is : made ≡ gives table
-  pub rows-are : length table ≡ k
-  pub fits : at + k * w ≤ room
-  pub long : length ys ≡ length xs
-  pub tables : tablesIn ys (entered dir n (stand at k w)) (n + 1) ≡ tablesIn xs dir n ++ (table ∷ [])
-  pub widths : widthsIn (entered dir n (stand at k w)) (n + 1) ≡ widthsIn dir n ++ (w ∷ [])
-  pub listed : Listed (entered dir n (stand at k w)) (n + 1) (at + k * w)
-  pub newest : standAt (entered dir n (stand at k w)) n ≡ stand at k w
-  pub ends : EndToEnd xs dir n at → EndToEnd ys (entered dir n (stand at k w)) (n + 1) (at + k * w)
 
 module _ (room at w k : ℕ) (made : Attempt Table) (xs ys : List ℤ) (dir : List ℕ) (n : ℕ)
     (inside : room ≤ length xs) (o : Owes room at w made xs ys (Rows k)) (few : n < 512) (low : 1 ≤ w) (high : w ≤ 6)

@@ -4,7 +4,7 @@
 --     known-accepted     what an accepted catalogue gives the work
 --     left-within        the items that are left stand within the lent cells
 --     call-concluded     the work is done, or refused
-use Prim.Native.Nat.{ℕ, _-_, _≤_, min}
+use Prim.Native.Nat.{ℕ, _-_, _≤_}
 use mathlib.Core.Path.{_≡_, refl, sym, _∙_, ap, subst}
 use mathlib.Core.List.{List, [], _∷_}
 use native.Mathlib.Omega.{arith}
@@ -14,8 +14,7 @@ use lib.IntN.{ℤ, pos}
 use lib.ListN.{length, take, replicate}
 use Rattle.laws.specs.Rows.{row, padded}
 use Rattle.laws.proofs.Rows.{length-row}
-use Rattle.laws.specs.Attempt.{Reading, refuses, reads, reading, Work, done}
-use Rattle.laws.specs.Attempt as Attempt
+use Rattle.laws.specs.Attempt.{Reading, reads, reading, Work}
 use Rattle.meaning.specs.Catalogue.{Catalogue, catalogueOf, catalogueRead}
 use Rattle.meaning.specs.World.{worldOf}
 use Rattle.meaning.specs.Query.{Read, queryRead}
@@ -39,8 +38,9 @@ use Rattle.stack.specs.declared.Stood.the-variants as Stood
 use Rattle.stack.specs.Stack.{stood, Fit}
 use Rattle.evaluator.specs.declared.Evaluated.{Evaluated}
 use Rattle.evaluator.specs.Answers.{answered, refusing, unsounding, concluding, standing}
-use Rattle.evaluator.specs.Evaluating.{Works}
-use Rattle.evaluator.proofs.Scoping.{unbound, holds-nothing}
+use Rattle.working.specs.Evaluating.{Works}
+use Rattle.working.specs.Scopes.{unbound}
+use Rattle.working.proofs.Scoping.{holds-nothing}
 
 -- the answer, and what is left in the cells
 abbrev Called : Outcome ℤ → List ℤ → Evaluated → Type 0
@@ -110,7 +110,8 @@ module _
     call-refused h e z =
         let (k, p, s, a) = check-refuses query c q h in
         called-refused _ (length before) k p before after r
-        (sym (ap (λ (m : Reading Read). evaluateOutcome (length before) (reading m (catalogued doc (length before)))) s))
+        (sym (ap (λ (m : Reading Read). evaluateOutcome (length before) (reading m (catalogued doc (length before))))
+        s))
         (ap answered e ∙ refusing-answer c h ∙ a) z
 
     module _ (n : ℕ) (h : c ≡ Checked.Records n) (d : Catalogued) (s : Answers.answered d ≡ catalogueCall doc) where
@@ -125,7 +126,8 @@ module _
 
       pub call-unsound :
           (p : ℕ) → d ≡ Catalogued.Unsound p → r ≡ unsounding d →
-          after ≡ padded (pos 0) (length before) (take 0 before) → Called (evaluateCall query doc (length before)) after r
+          after ≡ padded (pos 0) (length before) (take 0 before) →
+          Called (evaluateCall query doc (length before)) after r
       unfolding evaluateOutcome reading unsounding answered
       call-unsound p u e z =
           let (t, i, j) = check-reads query c q n h in
@@ -138,7 +140,7 @@ module _
 
       module _ (rows : ℕ) (u : d ≡ Catalogued.Rows rows) where
         pub call-concluded :
-            (few l : ℕ) (mid : List ℤ) (m : Stood) → few ≡ min (length before) 65536 → length mid ≡ length before →
+            (few l : ℕ) (mid : List ℤ) (m : Stood) → few ≡ room (length before) → length mid ≡ length before →
             Works (worldOf (catalogueOf doc rows)) (parse 32 query 0) 0 few unbound before mid m →
             l ≡ standing m → after ≡ padded (pos 0) (length mid) (take l mid) → r ≡ concluding m →
             Called (evaluateCall query doc (length before)) after r

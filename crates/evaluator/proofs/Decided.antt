@@ -11,7 +11,8 @@ use lib.IntN.{ℤ}
 use Rattle.meaning.specs.Calls.{Answer, gives, refused, evaluateCall}
 use Rattle.evaluator.specs.Answers.{answered}
 use Rattle.evaluator.specs.declared.Evaluated.{Evaluated}
-use Rattle.evaluator.specs.declared.Evaluated.the-variants.{Items, Unsound, Excess, Unbound, Catalogue, Full, Failed}
+use Rattle.evaluator.specs.declared.Evaluated.the-variants.{Items, Unsound, Excess, Unbound, Catalogue, Full}
+use Rattle.evaluator.specs.declared.Evaluated.the-variants.{Failed}
 
 unfoldable caseOf : Answer → Evaluated
 caseOf (gives []) = Items 0 0

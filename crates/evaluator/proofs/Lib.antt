@@ -1,7 +1,2 @@
-pub mod Scoping
-pub mod Working
-pub mod Pairing
-pub mod Turning
-pub mod Choosing
 pub mod Calling
 pub mod Decided

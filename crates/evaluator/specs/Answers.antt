@@ -25,14 +25,14 @@ answered (Evaluated.Catalogue p) = refused 4 p
 answered (Evaluated.Full p) = refused 6 p
 answered (Evaluated.Failed p) = refused 7 p
 
--- the answer where the query check refuses; there is none where it does not
+-- an accepted query is not refused: `Records` is never asked
 unfoldable pub refusing : Checked → Evaluated
 refusing (Checked.Records n) = Evaluated.Items 0 0
 refusing (Checked.Unsound p) = Evaluated.Unsound p
 refusing (Checked.Excess p) = Evaluated.Excess p
 refusing (Checked.Unbound p) = Evaluated.Unbound p
 
--- the answer where the catalogue check refuses
+-- an accepted catalogue is not refused: `Rows` is never asked
 unfoldable pub unsounding : Catalogued → Evaluated
 unsounding (Catalogued.Rows n) = Evaluated.Items 0 0
 unsounding (Catalogued.Unsound p) = Evaluated.Catalogue p

@@ -117,7 +117,8 @@ module _ (room at n : ℕ) (plan dir : List ℕ) (c : Catalogue) (xs ys : List �
         performed (Operator.Root t k) e _ _ refl (makes-RO plan c xs ts t (standAt dir t) (names t (s .0)) k) h
 
     pub number-made : (p m k : ℕ) → o ≡ Operator.Number t p m k
-        → Owes room at (wide dir t + 1) (gives (Operators.number (at-table t) p (columnsAt plan k m))) xs ys r → Performed
+        → Owes room at (wide dir t + 1) (gives (Operators.number (at-table t) p (columnsAt plan k m))) xs ys r →
+        Performed
     unfolding madeWidth madeOf Widths.tablesOf Widths.madeWidth operatorOf Sound SoundOf make
     number-made p m k e h =
         let s = sound-case o (Operator.Number t p m k) e plan dir n sound in
@@ -155,7 +156,8 @@ module _ (room at n : ℕ) (plan dir : List ℕ) (c : Catalogue) (xs ys : List �
         (makes-RU plan c xs ts t (standAt dir t) (names t (s .0)) u (standAt dir u) (names u (s .1))) h
 
     pub minus-made : (u : ℕ) → o ≡ Operator.Minus t u
-        → Owes room at (wide dir t) (each (made plan c xs (Task.Minus (standAt dir u))) (at-table t)) xs ys r → Performed
+        → Owes room at (wide dir t) (each (made plan c xs (Task.Minus (standAt dir u))) (at-table t)) xs ys r →
+        Performed
     unfolding madeWidth madeOf Widths.tablesOf Widths.madeWidth operatorOf Sound SoundOf
     minus-made u e h =
         let s = sound-case o (Operator.Minus t u) e plan dir n sound in

@@ -35,7 +35,8 @@ pub fn rowwise(
     at: usize,
     room: usize,
 ) -> Laid
-    requires { ⌜ Stands (now directory) at t × (at ≤ room) × (room ≤ length (now work)) × (10 * rows ≤ length (now doc)) ⌝ }
+    requires { ⌜ Stands (now directory) at t × (at ≤ room) × (room ≤ length (now work))
+        × (10 * rows ≤ length (now doc)) ⌝ }
     requires { ⌜ Tasks.Suits (now plan) at (wide (now directory) t) task ⌝ }
     requires { ⌜ (1 ≤ Tasks.wider (wide (now directory) t) task) × (Tasks.wider (wide (now directory) t) task ≤ 6) ⌝ }
     ensures { λ r. ⌜ Owes room at (Tasks.wider (wide (now (directory .entry)) t) task)
@@ -59,7 +60,8 @@ pub fn minus(
     at: usize,
     room: usize,
 ) -> Laid
-    requires { ⌜ Stands (now directory) at t × Stands (now directory) at u × (at ≤ room) × (room ≤ length (now work)) ⌝ }
+    requires { ⌜ Stands (now directory) at t × Stands (now directory) at u × (at ≤ room)
+        × (room ≤ length (now work)) ⌝ }
     requires { ⌜ (10 * rows ≤ length (now doc)) × (wide (now directory) t ≡ wide (now directory) u) ⌝ }
     ensures { λ r. ⌜ Owes room at (wide (now (directory .entry)) t)
         (each (Tasks.made (now (plan .entry)) (catalogueOf (now (doc .entry)) rows) (now (work .entry))
@@ -90,7 +92,8 @@ pub fn union(
     at: usize,
     room: usize,
 ) -> Laid
-    requires { ⌜ Stands (now directory) at t × Stands (now directory) at u × (at ≤ room) × (room ≤ length (now work)) ⌝ }
+    requires { ⌜ Stands (now directory) at t × Stands (now directory) at u × (at ≤ room)
+        × (room ≤ length (now work)) ⌝ }
     requires { ⌜ wide (now directory) t ≡ wide (now directory) u ⌝ }
     ensures { λ r. ⌜ Owes room at (wide (now (directory .entry)) t)
         (gives (tableAt (now (work .entry)) (standAt (now (directory .entry)) t)
@@ -113,7 +116,8 @@ pub fn join(
     at: usize,
     room: usize,
 ) -> Laid
-    requires { ⌜ Stands (now directory) at t × Stands (now directory) at u × (at ≤ room) × (room ≤ length (now work)) ⌝ }
+    requires { ⌜ Stands (now directory) at t × Stands (now directory) at u × (at ≤ room)
+        × (room ≤ length (now work)) ⌝ }
     requires { ⌜ (c < wide (now directory) t) × (d < wide (now directory) u)
         × (wide (now directory) t + wide (now directory) u ≤ 6) ⌝ }
     ensures { λ r. ⌜ Owes room at (wide (now (directory .entry)) t + wide (now (directory .entry)) u)
@@ -135,9 +139,11 @@ pub fn once(
     at: usize,
     room: usize,
 ) -> Laid
-    requires { ⌜ Stands (now directory) at t × (at ≤ room) × (room ≤ length (now work)) × (c < wide (now directory) t) ⌝ }
+    requires { ⌜ Stands (now directory) at t × (at ≤ room) × (room ≤ length (now work))
+        × (c < wide (now directory) t) ⌝ }
     ensures { λ r. ⌜ Owes room at (wide (now (directory .entry)) t)
-        (provided (Operators.once (Operators.column (tableAt (now (work .entry)) (standAt (now (directory .entry)) t)) c))
+        (provided (Operators.once (Operators.column (tableAt (now (work .entry)) (standAt (now (directory .entry)) t))
+        c))
         (gives (tableAt (now (work .entry)) (standAt (now (directory .entry)) t))))
         (now (work .entry)) (now (work .exit)) r ⌝ }
 {
@@ -239,7 +245,8 @@ pub fn truths(
     at: usize,
     room: usize,
 ) -> Laid
-    requires { ⌜ Stands (now directory) at t × (at ≤ room) × (room ≤ length (now work)) × (10 * rows ≤ length (now doc)) ⌝ }
+    requires { ⌜ Stands (now directory) at t × (at ≤ room) × (room ≤ length (now work))
+        × (10 * rows ≤ length (now doc)) ⌝ }
     requires { ⌜ wide (now directory) t ≡ 3 ⌝ }
     ensures { λ r. ⌜ Owes room at 2
         (Operators.truths (worldOf (catalogueOf (now (doc .entry)) rows))
@@ -264,7 +271,8 @@ pub fn steps(
     at: usize,
     room: usize,
 ) -> Laid
-    requires { ⌜ Stands (now directory) at t × (at ≤ room) × (room ≤ length (now work)) × (wide (now directory) t ≡ 2) ⌝ }
+    requires { ⌜ Stands (now directory) at t × (at ≤ room) × (room ≤ length (now work))
+        × (wide (now directory) t ≡ 2) ⌝ }
     requires { ⌜ Ready (now doc) rows (now from) (now to) ⌝ }
     ensures { λ r. ⌜ Owes room at 2
         (Operators.steps (worldOf (catalogueOf (now (doc .entry)) rows)) axis test

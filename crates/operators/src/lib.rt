@@ -22,8 +22,8 @@ pub struct Top {
     pub cells: usize,
 }
 
-// The table that an operator makes, laid behind those that stand. `order`, `aside`, `from` and `to` are lent to work in:
-// what they hold does not matter.
+// The table that an operator makes, laid behind those that stand. `order`, `aside`, `from` and `to` are lent to work
+// in: what they hold does not matter.
 pub fn perform(
     plan: &[u8],
     doc: &[u8],
@@ -41,7 +41,8 @@ pub fn perform(
     requires { ⌜ Listed (now directory) (top .tables) (top .cells)
         × Sound (now plan) (now directory) (top .tables) operator ⌝ }
     requires { ⌜ (top .cells ≤ room) × (room ≤ length (now work)) × (room ≤ 65536) ⌝ }
-    requires { ⌜ (32768 ≤ length (now order)) × (16384 ≤ length (now aside)) × Ready (now doc) rows (now from) (now to) ⌝ }
+    requires { ⌜ (32768 ≤ length (now order)) × (16384 ≤ length (now aside))
+        × Ready (now doc) rows (now from) (now to) ⌝ }
     ensures { λ r. ⌜ Owes room (top .cells) (madeWidth (now (directory .entry)) operator)
         (make (worldOf (catalogueOf (now (doc .entry)) rows)) (operatorOf (now (plan .entry)) operator)
         (tablesIn (now (work .entry)) (now (directory .entry)) (top .tables)))

@@ -1,5 +1,4 @@
 -- Laws of operators written one after another.
---     written-append       the bytes of operators in two parts
 --     operator-size        the record of an operator is at most 12 bytes long
 --     pens-of              an operator's record, where it is known which operator it is
 --     pens-cell            a cell that is read back from its bits
@@ -10,9 +9,9 @@
 --     wrote-length         the lent bytes stay as many as they were
 --     wrote-cell           a cell that is read back from its bits
 --     ruled-then           operators, then a rule's
-use Prim.Native.Nat.{ℕ, _+_, _*_, _≤_}
+use Prim.Native.Nat.{ℕ, _+_, _≤_}
 use mathlib.Core.Path.{_≡_, refl, sym, ap, _∙_, subst}
-use mathlib.Core.List.{List, [], _∷_, _++_, append-assoc, append-nil}
+use mathlib.Core.List.{List, [], _∷_, _++_, append-nil}
 use native.Mathlib.Omega.{arith}
 use mir.Syntax.{w64}
 use mir.Val.{SFits, toZ, ofZ}
@@ -32,20 +31,14 @@ use Rattle.writing.specs.declared.Columns.the-variants as Columns
 use Rattle.writing.specs.declared.Keys.{Keys}
 use Rattle.writing.specs.declared.Keys.the-variants as Keys
 use Rattle.writing.proofs.Penned.{penned-length}
-use Rattle.writing.proofs.Putting.{pens-more}
+use Rattle.writing.proofs.Putting.{pens-operators}
 use Rattle.rules.specs.declared.Operator.{Operator}
-use Rattle.rules.specs.declared.Operator.the-variants.{First, Attach, Project, Union, Minus, Select, Join, Number}
+use Rattle.rules.specs.declared.Operator.the-variants.{First, Attach, Project, Union, Minus, Select, Join}
+use Rattle.rules.specs.declared.Operator.the-variants.{Number}
 use Rattle.rules.specs.declared.Operator.the-variants.{Apply, Value, Counts, Truths, Once, Step, Root}
 use Rattle.rules.specs.declared.Pen.{Pen}
 use Rattle.rules.specs.declared.Output.{Output}
 use Rattle.rules.specs.Ruled.{operatorOf, Room, Wrote, Ruled}
-
-pub written-append : (os ps : List Op) → written (os ++ ps) ≡ written os ++ written ps
-unfolding written gather
-written-append [] ps = refl
-written-append (o ∷ os) ps =
-    ap (λ (l : List ℕ). operatorBytes o ++ l) (written-append os ps)
-    ∙ sym (append-assoc (operatorBytes o) (written os) (written ps))
 
 written-one : (o : Op) → written (o ∷ []) ≡ operatorBytes o
 unfolding written gather
@@ -122,8 +115,7 @@ module _ {x y : List ℕ} {p q : Pen} {os : List Op} (f : Wrote os x p y q) wher
   wrote-then {z} {r} {ps} g =
       record {
         count = simp length-append (omega arith);
-        pens =
-            subst (λ (l : List ℕ). Pens (p .at) l x z (r .at)) (sym (written-append os ps)) (pens-more (f .pens) (g .pens));
+        pens = pens-operators os ps (f .pens) (g .pens);
         short = omega arith;
       }
 
@@ -133,6 +125,7 @@ module _ {x y : List ℕ} {p q : Pen} {os : List Op} (f : Wrote os x p y q) wher
   pub wrote-length : length y ≡ length x
   wrote-length = ap length (f .pens .leaves) ∙ penned-length x (p .at) (written os)
 
-  pub ruled-then : {z : List ℕ} {r : Output} {m : Made} {next : ℕ} → Ruled m next y q z r → Ruled (then os m) next x p z r
+  pub ruled-then :
+      {z : List ℕ} {r : Output} {m : Made} {next : ℕ} → Ruled m next y q z r → Ruled (then os m) next x p z r
   unfolding then
   ruled-then g = record { wrote = wrote-then (g .wrote); table = g .table; after = g .after }

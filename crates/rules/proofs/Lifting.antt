@@ -9,17 +9,17 @@
 --     hold-holds                   the row of eight with another table
 --     flagged-free, flagged-others the flags of free variables give the variables that are to be lifted
 --     lifts-rule                   what `lift` leaves, over the tables that the row of eight holds
-use Prim.Native.Nat.{ℕ, zero, suc, _+_, _*_, _≤_, _<_}
+use Prim.Native.Nat.{ℕ, zero, suc, _+_, _≤_, _<_}
 use mathlib.Core.Path.{_≡_, refl, sym, ap, ap₂, _∙_, subst}
-use mathlib.Core.Bool.{Bool, true, false, not, cond, _&&_}
+use mathlib.Core.Bool.{Bool, false, not, cond, _&&_}
 use mathlib.Core.List.{List, [], _∷_, _++_, append-nil}
 use native.Mathlib.Omega.{arith}
 use native.Mathlib.Numerals.{add-one}
 use native.Mathlib.Decide.{ℕ-discrete}
-use borrow.Author.Tests.{eq-eqb, ne-eqb, eqb-true}
+use borrow.Author.Tests.{eq-eqb, ne-eqb}
 use lib.Dec.{eqb}
 use lib.ListN.{length, getD, set, length-append}
-use lib.Seq.{getD-set-same, getD-set-other, set-out}
+use lib.Seq.{getD-set-same, getD-set-other}
 use Rattle.laws.specs.Lists.{filter, below}
 use Rattle.laws.proofs.Lists.{All, all-map, all-below, all-kept}
 use Rattle.laws.proofs.Filters.{filter-append, filter-same}
@@ -231,7 +231,8 @@ module _
   pub lifts-wrote : Wrote (lifts e m cs (p .operators) vs) x p y (r .pen)
   lifts-wrote =
       subst (λ (us : List ℕ). Wrote (lifts e m cs (p .operators) us) x p y (r .pen)) s
-      (rw (lifts-same (tablesOf ts) e m cs (p .operators) (flagged fs 8) (all-map (flagged fs 8) h (flagged-below fs 8)))
+      (rw (lifts-same (tablesOf ts) e m cs (p .operators) (flagged fs 8)
+      (all-map (flagged fs 8) h (flagged-below fs 8)))
       at (g .wrote))
 
   pub lifts-holds : Holds (r .tables) (lifted e (p .operators) vs)

@@ -1,7 +1,8 @@
 -- What the rules of the translation leave in the lent bytes (document 01, 'Translation').
 --     operatorOf o           an operator as the definitions have it
 --     Room p k               k more operators can be counted: of 5,000 operators, each at most 12 bytes long
---     Wrote os x p y r       the operators os are written over the bytes x where p stands; y is left, writing stands at r
+--     Wrote os x p y r       the operators os are written over the bytes x where p stands; y is left, writing stands at
+--                            r
 --     Ruled m next x p y r   the same for a rule's operators; r names its result's table, and next as the offset after
 --     choice n a b           what QI adds after its operands
 --     tablesOf ts            the table of each variable, from the row of eight
@@ -21,7 +22,8 @@ use Rattle.meaning.specs.Written.{written}
 use Rattle.writing.specs.Penned.{Pens}
 use Rattle.writing.specs.Listed.{columnsOf, keysOf}
 use Rattle.rules.specs.declared.Operator.{Operator}
-use Rattle.rules.specs.declared.Operator.the-variants.{First, Attach, Project, Union, Minus, Select, Join, Number}
+use Rattle.rules.specs.declared.Operator.the-variants.{First, Attach, Project, Union, Minus, Select, Join}
+use Rattle.rules.specs.declared.Operator.the-variants.{Number}
 use Rattle.rules.specs.declared.Operator.the-variants.{Apply, Value, Counts, Truths, Once, Step, Root}
 use Rattle.rules.specs.declared.Pen.{Pen}
 use Rattle.rules.specs.declared.Output.{Output}

@@ -369,7 +369,8 @@ pub fn lift(
     first: u8,
 ) -> Lifted
     requires { ⌜ Room pen 16 ⌝ }
-    ensures { λ r. ⌜ Lifts tables m (first ∷ 1 ∷ 2 ∷ []) (flagged flags 8) (now (plan .entry)) pen (now (plan .exit)) r ⌝ }
+    ensures { λ r. ⌜ Lifts tables m (first ∷ 1 ∷ 2 ∷ []) (flagged flags 8) (now (plan .entry)) pen (now (plan .exit))
+        r ⌝ }
 {
     let mut done = Lifted { tables, pen };
     let mut v: usize = 0;

@@ -1,24 +1,27 @@
 -- Plan, then catalogue, then work (document 01, 'The eight refusals').
 --     accepted, unaccepted      what the plan check's answer tells
 --     known-rows                a catalogue that was accepted is one that steps can walk
---     bad-plan-leaves, bad-catalogue-leaves, run-leaves     each of the three, as what the whole call answers and leaves
---     room-within               the room is within the lent cells and 65,536
+--     refusal-leaves            a refusal leaves zeros, once all cells are cleared
+--     walked-leaves             what the operators come to, as what the call answers and leaves
+--     bad-plan-leaves, bad-catalogue-leaves, run-leaves     each of the three, as what the whole call answers and
+--                                                           leaves
+--     none-filled               a refusal fills no cell
 --     cleared                   what is left once the cells past the filled are zero
-use Prim.Native.Nat.{ℕ, _≤_}
-use mathlib.Core.Path.{_≡_, refl, sym, ap, _∙_, subst}
+use Prim.Native.Nat.{ℕ, _*_, _-_}
+use mathlib.Core.Path.{_≡_, refl, sym, ap, ap₂, _∙_, subst}
 use mathlib.Core.List.{List, [], _∷_}
 use native.Mathlib.Omega.{arith}
 use denote.Enum.Declared.{tagOf}
 use types.Run.{OneOf, miss}
 use lib.IntN.{ℤ, pos}
-use lib.ListN.{length, take}
-use Rattle.laws.specs.Attempt.{Reading, refuses, reads, reading}
+use lib.ListN.{length, take, replicate}
+use Rattle.laws.specs.Attempt.{Reading, refuses, reads, reading, Work}
 use Rattle.meaning.specs.Calls as Calls
-use Rattle.meaning.specs.Calls.{Outcome, refusal, runOutcome, runCall, room}
+use Rattle.meaning.specs.Calls.{Outcome, refusal, runOutcome, runCall, room, lastTable}
 use Rattle.laws.specs.Rows.{padded}
 use Rattle.meaning.specs.Catalogue.{Catalogue, catalogueOf, catalogueRead}
 use Rattle.meaning.specs.Plan.{Placed, planRead}
-use Rattle.meaning.specs.Run.{running}
+use Rattle.meaning.specs.Run.{Filled, running}
 use Rattle.meaning.specs.World.{worldOf}
 use Rattle.laws.proofs.Outcomes.{refuses-reads}
 use Rattle.catalogue.specs.declared.Checked.{Checked as Catalogued}
@@ -29,16 +32,58 @@ use Rattle.steps.specs.Marks.{Known}
 use Rattle.plans.specs.declared.Checked.{Checked as Planned}
 use Rattle.plans.specs.declared.Checked.the-variants as Planned
 use Rattle.plans.specs.Walk.{checked, planCount}
+use Rattle.running.specs.declared.Walked.{Walked}
+use Rattle.running.specs.declared.Walked.the-variants as Walked
+use Rattle.running.specs.Leaving.{Walks, operatorsIn, operatorsOf, Accepted, carriedOut}
 use Rattle.runner.specs.declared.Ran.{Ran}
 use Rattle.runner.specs.declared.Ran.the-variants as Ran
-use Rattle.runner.specs.Answers.{answered, filledBy}
-use Rattle.runner.specs.Leaving.{Leaves, placed, operatorsOf, Accepted, ranOn, badPlan, badCatalogue}
+use Rattle.runner.specs.Answers.{answered, filledBy, badPlan, badCatalogue, concluding}
+use Rattle.runner.specs.Calling.{Leaves}
 use Rattle.runner.proofs.Ran.{the-type}
-use Rattle.runner.proofs.Leaving.{refusal-leaves}
+
+-- a refusal leaves zeros
+refusal-leaves :
+    (n p lent : ℕ) (cells : List ℤ) (r : Ran) → length cells ≡ lent → answered r ≡ Calls.refused n p → filledBy r ≡ 0 →
+    Leaves (refusal (pos 0) lent n p) cells r
+unfolding refusal padded
+refusal-leaves n p lent cells r l a f =
+    let none : lent - 0 ≡ lent = omega arith in
+    record { answer = a; left = rw (f, l) (ap (λ (k : ℕ). replicate k (pos 0)) none); within = omega arith }
+
+-- the tables stand, or the operators refuse
+walked-leaves :
+    (o : Work Filled) (cells : List ℤ) (w : Walked) → Walks o cells w →
+    Leaves (runOutcome (length cells) (reads o)) cells (concluding w)
+unfolding Walks runOutcome concluding answered filledBy
+walked-leaves o cells (Walked.Tables start rows filled) (f, e, t) =
+    subst (λ (x : Work Filled). Leaves (runOutcome (length cells) (reads x)) cells
+    (concluding (Walked.Tables start rows filled)))
+    (sym e)
+    (record {
+      answer = told;
+      left = ap (padded (pos 0) (length cells)) (t .tables);
+      within = t .within;
+    })
+  where
+    told :
+        Calls.gives (start ∷ rows ∷ filled ∷ [])
+        ≡ Calls.gives ((f .filled - length (lastTable (f .tables)) * 3) ∷ length (lastTable (f .tables)) ∷ f .filled
+        ∷ [])
+    told =
+        ap (λ (s : ℕ). Calls.gives (s ∷ rows ∷ filled ∷ [])) (t .from)
+        ∙ ap₂ (λ (n r : ℕ). Calls.gives ((n - r * 3) ∷ r ∷ n ∷ [])) (t .count) (t .last)
+walked-leaves o cells (Walked.Full p) e =
+    subst (λ (x : Work Filled). Leaves (runOutcome (length cells) (reads x)) cells (concluding (Walked.Full p))) (sym e)
+    (refusal-leaves 6 p (length cells) cells (concluding (Walked.Full p)) refl refl refl)
+walked-leaves o cells (Walked.Fails p) e =
+    subst (λ (x : Work Filled). Leaves (runOutcome (length cells) (reads x)) cells (concluding (Walked.Fails p)))
+    (sym e)
+    (refusal-leaves 7 p (length cells) cells (concluding (Walked.Fails p)) refl refl refl)
 
 module _ (plan : List ℕ) where
-  accepted-of : (m : Reading (List Placed)) (n : ℕ) → reads n ≡ reading m (λ ps. reads (length ps)) → m ≡ reads (placed m)
-  unfolding reading placed
+  accepted-of :
+      (m : Reading (List Placed)) (n : ℕ) → reads n ≡ reading m (λ ps. reads (length ps)) → m ≡ reads (operatorsIn m)
+  unfolding reading operatorsIn
   accepted-of (refuses k p) n e = absurd (refuses-reads k p n (sym e))
   accepted-of (reads ps) n e = refl
 
@@ -78,11 +123,14 @@ module _ (doc : List ℕ) (k : Catalogued) (e : Answers.answered k ≡ Calls.cat
         record { few = s .few; there = omega (arith, s .whole); nested = s .nested }
 
     pub run-leaves :
-        (plan : List ℕ) (lent : ℕ) (cells : List ℤ) (r : Ran) → Accepted plan →
-        Leaves (ranOn plan doc n lent (room lent)) cells r →
-        Leaves (runCall plan doc lent) cells r
+        (plan : List ℕ) (lent : ℕ) (cells : List ℤ) (w : Walked) (r : Ran) → Accepted plan → length cells ≡ lent →
+        Walks (carriedOut plan doc n (room lent)) cells w → r ≡ concluding w → Leaves (runCall plan doc lent) cells r
     unfolding runCall reading
-    run-leaves plan lent cells r a h = subst (λ (o : Outcome ℤ). Leaves o cells r) (sym same) h
+    run-leaves plan lent cells w r a l h i =
+        subst (λ (q : Ran). Leaves (runCall plan doc lent) cells q) (sym i)
+        (subst (λ (o : Outcome ℤ). Leaves o cells (concluding w)) (sym same)
+        (subst (λ (k : ℕ). Leaves (runOutcome k (reads (carriedOut plan doc n (room lent)))) cells (concluding w)) l
+        (walked-leaves (carriedOut plan doc n (room lent)) cells w h)))
       where
         go : Catalogue → List Placed → Outcome ℤ
         go c ps = runOutcome lent (reads (running (worldOf c) (room lent) ps [] 0))
@@ -116,10 +164,6 @@ module _ (doc : List ℕ) (k : Catalogued) (e : Answers.answered k ≡ Calls.cat
       (running (worldOf c) (room lent) (operatorsOf plan) [] 0)))) bad in
       subst (λ (o : Outcome ℤ). Leaves o cells r) (sym same) (refusal-leaves 4 p lent cells r l (ap answered q)
       (ap filledBy q))
-
-pub room-within : (lent : ℕ) → (room lent ≤ lent) × (room lent ≤ 65536)
-unfolding room
-room-within lent = (omega arith, omega arith)
 
 -- the cells past the filled are zero
 pub cleared :

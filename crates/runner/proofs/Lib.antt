@@ -1,5 +1,2 @@
-pub mod Going
-pub mod Turning
-pub mod Leaving
 pub mod Calling
 pub mod Decided

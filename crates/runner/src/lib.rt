@@ -1,28 +1,13 @@
-// The runner: the tables of a plan, laid end to end in the lent cells.
+// The runner: the checks, the work of crates/running, and the answer.
+use running::Walked;
 ghost use mathlib.Core.Path.{_≡_};
-ghost use Prim.Native.Nat.{_+_, _*_, _≤_, _<_};
 ghost use lib.ListN.{length};
-ghost use Rattle.meaning.specs.Calls;
-ghost use Rattle.meaning.specs.Catalogue.{catalogueOf};
-ghost use Rattle.meaning.specs.Operators.{make};
-ghost use Rattle.meaning.specs.World.{worldOf};
-ghost use Rattle.steps.specs.Marks.{Known, Ready};
-ghost use Rattle.plans.specs.Decoded.{operatorOf};
-ghost use Rattle.directory.specs.Directory.{tablesIn, Listed};
-ghost use Rattle.directory.specs.Sound.{madeWidth, Sound};
-ghost use Rattle.runner.specs.Answers.{answered, filledBy};
-ghost use Rattle.runner.specs.Leaving.{Leaves, Accepted, ranOn, Goes, refusedAt, badPlan, badCatalogue};
-use directory::enter;
-use directory::stand;
-use directory::width;
-use operators::Top;
-use operators::perform;
-use plans::Operator;
-use plans::Reading;
-use tables::Laid;
-use tables::Stand;
+ghost use Rattle.meaning.specs.Calls.{runCall};
+ghost use Rattle.runner.specs.Answers.{answered, filledBy, badPlan, badCatalogue, concluding};
+ghost use Rattle.runner.specs.Calling.{Leaves};
 
-// What a run answers: the start and the rows of the last table and the cells filled; or the place of refusal 5, 4, 6 or 7.
+// What a run answers: the start and the rows of the last table and the cells filled; or the place of refusal 5, 4, 6 or
+// 7.
 pub enum Ran {
     Tables {
         start: usize,
@@ -35,177 +20,12 @@ pub enum Ran {
     Fails(usize),
 }
 
-// What one operator comes to: the end of the tables with its own, that it passes the room, or that it fails.
-enum Turned {
-    On(Top),
-    Full,
-    Fails,
-}
-
-// Lays the table of one operator behind those that stand, and enters it.
-fn lay(
-    plan: &[u8],
-    doc: &[u8],
-    rows: usize,
-    operator: Operator,
-    top: Top,
-    directory: &mut [usize],
-    work: &mut [i64],
-    order: &mut [u16],
-    aside: &mut [u16],
-    from: &mut [bool],
-    to: &mut [bool],
-    room: usize,
-) -> Turned
-    requires { ⌜ Listed (now directory) (top .tables) (top .cells)
-        × Sound (now plan) (now directory) (top .tables) operator ⌝ }
-    requires { ⌜ (top .tables < 512) × (top .cells ≤ room) × (room ≤ length (now work)) × (room ≤ 65536) ⌝ }
-    requires { ⌜ (32768 ≤ length (now order)) × (16384 ≤ length (now aside)) × Ready (now doc) rows (now from) (now to) ⌝ }
-    ensures { λ r. ⌜ Goes room top (madeWidth (now (directory .entry)) operator)
-        (make (worldOf (catalogueOf (now (doc .entry)) rows)) (operatorOf (now (plan .entry)) operator)
-        (tablesIn (now (work .entry)) (now (directory .entry)) (top .tables)))
-        (now (work .entry)) (now (work .exit)) (now (directory .entry)) (now (directory .exit)) r ⌝ }
-{
-    let laid = perform(
-        plan,
-        doc,
-        rows,
-        operator,
-        directory,
-        top,
-        work,
-        order,
-        aside,
-        from,
-        to,
-        room,
-    );
-    let w = width(directory, operator);
-    match laid {
-        Laid::Rows(n) => {
-            let s = Stand {
-                at: top.cells,
-                rows: n,
-                width: w,
-            };
-            enter(directory, top.tables, s);
-            Turned::On(Top {
-                tables: top.tables + 1,
-                cells: top.cells + n * w,
-            })
-        }
-        Laid::Full => Turned::Full,
-        Laid::Fails => Turned::Fails,
-    }
-}
-
-// A refusal of the operator at an offset.
-fn refused(turned: Turned, at: usize) -> Ran
-    ensures { λ r. ⌜ r ≡ refusedAt turned at ⌝ }
-{
-    match turned {
-        Turned::Full => Ran::Full(at),
-        _ => Ran::Fails(at),
-    }
-}
-
-// Performs the operators of a sound plan in order. Each record is read once; what its operator costs is said there.
-fn walk(
-    plan: &[u8],
-    doc: &[u8],
-    rows: usize,
-    directory: &mut [usize],
-    work: &mut [i64],
-    order: &mut [u16],
-    aside: &mut [u16],
-    from: &mut [bool],
-    to: &mut [bool],
-    room: usize,
-) -> Ran
-    requires { ⌜ Accepted (now plan) × (length (now directory) ≡ 1536) × (room ≤ length (now work)) × (room ≤ 65536) ⌝ }
-    requires { ⌜ (32768 ≤ length (now order)) × (16384 ≤ length (now aside)) × Ready (now doc) rows (now from) (now to) ⌝ }
-    ensures { λ r. ⌜ Leaves (ranOn (now (plan .entry)) (now (doc .entry)) rows (length (now (work .entry))) room)
-        (now (work .exit)) r ⌝ }
-{
-    let mut at: usize = 0;
-    let mut tables: usize = 0;
-    let mut filled: usize = 0;
-    while at < plan.len() {
-        let Reading::Sound(found) = plans::read(plan, at) else {
-            return Ran::BadPlan(at);
-        };
-        let operator = found.operator;
-        let top = Top {
-            tables,
-            cells: filled,
-        };
-        let turned = lay(
-            plan,
-            doc,
-            rows,
-            operator,
-            top,
-            directory,
-            work,
-            order,
-            aside,
-            from,
-            to,
-            room,
-        );
-        let Turned::On(more) = turned else {
-            return refused(turned, at);
-        };
-        tables = more.tables;
-        filled = more.cells;
-        at = found.next;
-    }
-    let last = stand(directory, tables - 1);
-    Ran::Tables {
-        start: last.at,
-        rows: last.rows,
-        filled,
-    }
-}
-
-// The cells that count: the first 65,536.
-fn room_of(lent: usize) -> usize
-    ensures { λ r. ⌜ r ≡ Calls.room lent ⌝ }
-{
-    if lent < 65536 { lent } else { 65536 }
-}
-
-// Runs a sound plan over a sound catalogue. The directory and what the operators work in are made here, once a run.
-fn work_out(plan: &[u8], doc: &[u8], rows: usize, work: &mut [i64]) -> Ran
-    requires { ⌜ Accepted (now plan) × Known (now doc) rows ⌝ }
-    ensures { λ r. ⌜ Leaves (ranOn (now (plan .entry)) (now (doc .entry)) rows (length (now (work .entry)))
-        (Calls.room (length (now (work .entry))))) (now (work .exit)) r ⌝ }
-{
-    let mut directory = [0usize; 1536];
-    let mut order = [0u16; 32768];
-    let mut aside = [0u16; 16384];
-    let mut from = [false; 2048];
-    let mut to = [false; 2048];
-    let room = room_of(work.len());
-    walk(
-        plan,
-        doc,
-        rows,
-        &mut directory,
-        work,
-        &mut order,
-        &mut aside,
-        &mut from,
-        &mut to,
-        room,
-    )
-}
-
 // The plan's refusal.
 fn bad_plan(checked: plans::Checked) -> Ran
     ensures { λ r. ⌜ r ≡ badPlan checked ⌝ }
 {
     match checked {
+        // never: an accepted plan is not refused
         plans::Checked::Operators(_) => Ran::BadPlan(0),
         plans::Checked::Unsound(place) => Ran::BadPlan(place),
     }
@@ -216,14 +36,34 @@ fn bad_catalogue(checked: catalogue::Checked) -> Ran
     ensures { λ r. ⌜ r ≡ badCatalogue checked ⌝ }
 {
     match checked {
+        // never: an accepted catalogue is not refused
         catalogue::Checked::Rows(_) => Ran::BadCatalogue(0),
         catalogue::Checked::Unsound(place) => Ran::BadCatalogue(place),
     }
 }
 
+// The answer where the plan was carried out, or refused.
+fn concluded(walked: Walked) -> Ran
+    ensures { λ r. ⌜ r ≡ concluding walked ⌝ }
+{
+    match walked {
+        Walked::Tables {
+            start,
+            rows,
+            filled,
+        } => Ran::Tables {
+            start,
+            rows,
+            filled,
+        },
+        Walked::Full(place) => Ran::Full(place),
+        Walked::Fails(place) => Ran::Fails(place),
+    }
+}
+
 // Plan, then catalogue, then work. What stands past the tables, or after a refusal, does not matter yet.
 fn attempt(plan: &[u8], doc: &[u8], work: &mut [i64]) -> Ran
-    ensures { λ r. ⌜ Leaves (Calls.runCall (now (plan .entry)) (now (doc .entry)) (length (now (work .entry))))
+    ensures { λ r. ⌜ Leaves (runCall (now (plan .entry)) (now (doc .entry)) (length (now (work .entry))))
         (now (work .exit)) r ⌝ }
 {
     let operators = plans::check(plan);
@@ -234,7 +74,7 @@ fn attempt(plan: &[u8], doc: &[u8], work: &mut [i64]) -> Ran
     let catalogue::Checked::Rows(rows) = sound else {
         return bad_catalogue(sound);
     };
-    work_out(plan, doc, rows, work)
+    concluded(running::work_out(plan, doc, rows, work))
 }
 
 // The cells that the tables fill: none after a refusal.
@@ -247,15 +87,15 @@ fn filled_by(ran: Ran) -> usize
     }
 }
 
-// Runs a plan over a catalogue in the lent cells. All tables stand there end to end, and zeros after them; after a refusal
-// there are only zeros.
+// Runs a plan over a catalogue in the lent cells. All tables stand there end to end, and zeros after them; after a
+// refusal there are only zeros.
 pub fn run(plan: &[u8], doc: &[u8], work: &mut [i64]) -> Ran
     ensures answer { λ r. ⌜ answered r
-        ≡ Calls.runCall (now (plan .entry)) (now (doc .entry)) (length (now (work .entry))) .answer ⌝ }
+        ≡ runCall (now (plan .entry)) (now (doc .entry)) (length (now (work .entry))) .answer ⌝ }
     ensures cells { λ r. ⌜ now (work .exit)
-        ≡ Calls.runCall (now (plan .entry)) (now (doc .entry)) (length (now (work .entry))) .left ⌝ }
+        ≡ runCall (now (plan .entry)) (now (doc .entry)) (length (now (work .entry))) .left ⌝ }
 {
     let ran = attempt(plan, doc, work);
-    stack::clear(work, filled_by(ran));
+    lent::clear(work, filled_by(ran));
     ran
 }

@@ -67,7 +67,8 @@ Sides w f at l m k n top room before after r =
     Leaves top room (applied w at f (paired before top (Pair.Items l m k n))) (At n) before after r
 
 module _
-    (w : World) (f : Function) (at l m k n top : ℕ) (before : List ℤ) (h : l + m ≤ k) (g : top + k ≤ length before) (room : ℕ)
+    (w : World) (f : Function) (at l m k n top : ℕ) (before : List ℤ) (h : l + m ≤ k) (g : top + k ≤ length before)
+    (room : ℕ)
     (t : top + k ≤ room)
   where
     long : length (row before top l) ≡ l
@@ -77,13 +78,18 @@ module _
     wide = length-row before (top + l) m (omega arith)
 
     -- no item is left
-    empty : apply w f (row before top l) (row before (top + l) m) ≡ gives [] → Sides w f at l m k n top room before before (Stood.Items 0 k n)
+    empty :
+        apply w f (row before top l) (row before (top + l) m) ≡ gives [] →
+        Sides w f at l m k n top room before before (Stood.Items 0 k n)
     unfolding applied paired work
     empty e =
         leaves-gives top room (At n) before at _ (λ xs. stand xs k) before (Stood.Items 0 k n) [] e
-        (leaves-laid top room (At n) before before 0 k n [] (sym (laid-nothing before top)) (omega arith) refl (omega arith) t (λ e d. d))
+        (leaves-laid top room (At n) before before 0 k n [] (sym (laid-nothing before top)) (omega arith) refl
+        (omega arith) t (λ e d. d))
 
-    fail : apply w f (row before top l) (row before (top + l) m) ≡ fails → Sides w f at l m k n top room before before (Stood.Failed at)
+    fail :
+        apply w f (row before top l) (row before (top + l) m) ≡ fails →
+        Sides w f at l m k n top room before before (Stood.Failed at)
     unfolding applied paired work
     fail e = leaves-fails top room (At n) before at _ (λ xs. stand xs k) e
 
@@ -100,7 +106,8 @@ module _
     sides-nothing d e = empty (apply-nothing w f _ _ (omega (arith, long)) (wide ∙ e))
 
     -- one item on each side
-    module _ (d : l ≡ 1) (e : m ≡ 1) (a : Attempt ℤ) (s : a ≡ w .arith f (getD before top (pos 0)) (getD before (top + 1) (pos 0))) where
+    module _ (d : l ≡ 1) (e : m ≡ 1) (a : Attempt ℤ)
+        (s : a ≡ w .arith f (getD before top (pos 0)) (getD before (top + 1) (pos 0))) where
       both : apply w f (row before top l) (row before (top + l) m) ≡ attempt a (λ z. gives (z ∷ []))
       both =
           apply-both w f _ _ (long ∙ d) (wide ∙ e)

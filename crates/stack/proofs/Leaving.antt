@@ -29,29 +29,17 @@ use Rattle.stack.specs.declared.Stood.{Stood}
 use Rattle.stack.specs.declared.Stood.the-variants as Stood
 use Rattle.stack.specs.declared.Pair.{Pair}
 use Rattle.stack.specs.declared.Pair.the-variants as Pair
-use Rattle.stack.specs.Stack.{
-  stood,
-  Paired,
-  paired,
-  Fit,
-  FitPair,
-  Ends,
-  EndsPair,
-  At,
-  Sums,
-  raising,
-  joining,
-  Lent,
-  Leaves,
-}
+use Rattle.stack.specs.Stack.{stood, Paired, paired, Fit, FitPair, Ends, EndsPair, At, Sums, raising, joining}
+use Rattle.stack.specs.Stack.{Lent, Leaves}
 use Rattle.stack.specs.Arms.{raised, joined, kept}
-use Rattle.stack.proofs.Moves.{row-here}
+use Rattle.lent.proofs.Moves.{row-here}
 use Rattle.stack.proofs.Stood.{the-type}
 use Rattle.stack.proofs.Pair.{the-type as pair-type}
 
 pub row-append : {A : Type 0} (xs : List A) (a l m : ℕ) → row xs a (l + m) ≡ row xs a l ++ row xs (a + l) m
 unfolding row
-row-append xs a l m = take-add l m (drop a xs) ∙ ap (λ (ys : List _). take l (drop a xs) ++ take m ys) (drop-drop l a xs)
+row-append xs a l m =
+    take-add l m (drop a xs) ∙ ap (λ (ys : List _). take l (drop a xs) ++ take m ys) (drop-drop l a xs)
 
 module _ (top room : ℕ) (E : ℕ → Type 0) (before : List ℤ) where
   pub leaves-full : (p : ℕ) → Leaves top room (full p) E before before (Stood.Full p)
@@ -65,7 +53,8 @@ module _ (top room : ℕ) (E : ℕ → Type 0) (before : List ℤ) where
   module _ (after : List ℤ) where
     pub leaves-laid :
         (l k n : ℕ) (vs : List ℤ) → after ≡ laid before top vs → top + length vs ≤ length before → length vs ≡ l →
-        l ≤ k → top + k ≤ room → ((e : ℕ) → E e → n ≡ e) → Leaves top room (stand vs k) E before after (Stood.Items l k n)
+        l ≤ k → top + k ≤ room → ((e : ℕ) → E e → n ≡ e) →
+        Leaves top room (stand vs k) E before after (Stood.Items l k n)
     unfolding stood
     leaves-laid l k n vs e h s f g t =
         record {
@@ -135,7 +124,8 @@ module _ (top room : ℕ) (E : ℕ → Type 0) (before : List ℤ) where
 -- Items added where `below` stand already
 
 module _ (top room at below : ℕ) (E : ℕ → Type 0) (before : List ℤ) (xs : List ℤ) (g : Lent top room before) where
-  pub leaves-crowded : room - top < below + length xs → Leaves top room (adding (room - top) at below xs) E before before (Stood.Full at)
+  pub leaves-crowded :
+      room - top < below + length xs → Leaves top room (adding (room - top) at below xs) E before before (Stood.Full at)
   unfolding adding within
   leaves-crowded h = rw (lt-leb (below + length xs) (room - top) h) (leaves-full top room E before at)
 
@@ -146,12 +136,14 @@ module _ (top room at below : ℕ) (E : ℕ → Type 0) (before : List ℤ) (xs 
   unfolding adding within
   leaves-added after l k n h e s c t =
       rw (le-leb (below + length xs) (room - top) h, c)
-      (leaves-laid top room E before after l k n xs e (omega (arith, g .low, g .lent)) s (omega arith) (omega (arith, g .low)) t)
+      (leaves-laid top room E before after l k n xs e (omega (arith, g .low, g .lent)) s (omega arith)
+      (omega (arith, g .low)) t)
 
 pub adding-as : (room at below : ℕ) (x y : ℤ) → x ≡ y → adding room at below (x ∷ []) ≡ adding room at below (y ∷ [])
 adding-as room at below x y e = ap (λ (z : ℤ). adding room at below (z ∷ [])) e
 
-pub put-at : (cells : List ℤ) (top : ℕ) (x y : ℤ) → x ≡ y → top < length cells → set cells top x ≡ laid cells top (y ∷ [])
+pub put-at :
+    (cells : List ℤ) (top : ℕ) (x y : ℤ) → x ≡ y → top < length cells → set cells top x ≡ laid cells top (y ∷ [])
 put-at cells top x y e h = ap (set cells top) e ∙ set-laid cells top y h
 
 -- What a record does with the items of its operands, or hands on where one is refused
@@ -167,7 +159,8 @@ module _ (top room : ℕ) (before after : List ℤ) (r : Stood) where
 
   pub leaves-pair :
       (f : Paired → Work Standing) (p : Pair) (l m k n : ℕ) → p ≡ Pair.Items l m k n →
-      Leaves top room (f (record { first = row before top l; second = row before (top + l) m; count = k })) (At n) before after r →
+      Leaves top room (f (record { first = row before top l; second = row before (top + l) m; count = k })) (At n)
+      before after r →
       Leaves top room (work (paired before top p) f) (EndsPair p) before after r
   unfolding paired work
   leaves-pair f p l m k n e h =
@@ -175,7 +168,8 @@ module _ (top room : ℕ) (before after : List ℤ) (r : Stood) where
 
 module _ (top room : ℕ) (cells : List ℤ) (f : Standing → Work Standing) where
   pub leaves-stopped :
-      (a : Stood) → OneOf (1 ∷ 2 ∷ []) (tagOf the-type a) → Leaves top room (work (stood cells top a) f) (Ends a) cells cells a
+      (a : Stood) → OneOf (1 ∷ 2 ∷ []) (tagOf the-type a) →
+      Leaves top room (work (stood cells top a) f) (Ends a) cells cells a
   unfolding stood work
   leaves-stopped (Stood.Items l k n) h = absurd (miss (1 ∷ 2 ∷ []) 0 tt h)
   leaves-stopped (Stood.Full p) h = leaves-full top room (Ends (Stood.Full p)) cells p

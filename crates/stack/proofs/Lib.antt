@@ -1,4 +1,3 @@
-pub mod Moves
 pub mod Leaving
 pub mod Applying
 pub mod Valuing

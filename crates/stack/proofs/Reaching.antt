@@ -1,7 +1,8 @@
--- A step (document 01, 'Query records', QX): from the marks of its items to the marks of the nodes that it reaches, and what
--- then stands on the stack.
+-- A step (document 01, 'Query records', QX): from the marks of its items to the marks of the nodes that it reaches, and
+-- what then stands on the stack.
 --     reaches-all, reaches-not     what `reach` answers
---     leaves-reached, leaves-short, leaves-strange     the nodes in place of the items; too many of them; an item that is no node
+--     leaves-reached, leaves-short, leaves-strange     the nodes in place of the items; too many of them; an item that
+--                                                      is no node
 use Prim.Native.Nat.{ℕ, _+_, _-_, _≤_, _<_, max}
 use mathlib.Core.Path.{_≡_, refl, sym, ap, _∙_, subst}
 use mathlib.Core.Bool.{Bool}
@@ -28,22 +29,16 @@ use Rattle.stack.specs.declared.Stood.{Stood}
 use Rattle.stack.specs.declared.Stood.the-variants as Stood
 use Rattle.stack.specs.Stack.{stood, Fit, Ends, At, Lent, Leaves, raising}
 use Rattle.stack.specs.Arms.{raised, stepped, Reaches}
-use Rattle.stack.proofs.Moves.{part-row}
-use Rattle.stack.proofs.Leaving.{
-  leaves-items,
-  leaves-fails,
-  leaves-gives,
-  leaves-raised,
-  leaves-crowded,
-  leaves-added,
-  leaves-as,
-}
+use Rattle.lent.proofs.Moves.{part-row}
+use Rattle.stack.proofs.Leaving.{leaves-items, leaves-fails, leaves-gives, leaves-raised, leaves-crowded}
+use Rattle.stack.proofs.Leaving.{leaves-added, leaves-as}
 
 module _ (doc : List ℕ) (n : ℕ) (axis : Axis) (test : Test) (xs : List ℤ) (from : List Bool) (m : Marked) where
   pub reaches-not :
       FromAll (catalogueOf doc n) xs m from → m ≡ NotANode → World.step (catalogueOf doc n) axis test xs ≡ fails
   reaches-not f e =
-      step-fails (catalogueOf doc n) axis test xs from (subst (λ (m : Marked). FromAll (catalogueOf doc n) xs m from) e f)
+      step-fails (catalogueOf doc n) axis test xs from
+      (subst (λ (m : Marked). FromAll (catalogueOf doc n) xs m from) e f)
 
   pub reaches-all :
       (old new : List Bool) → FromAll (catalogueOf doc n) xs m from → m ≡ AllNodes → Step doc n axis test from old new →
@@ -58,7 +53,8 @@ module _
   where
     abbrev Steps : List ℤ → Stood → Type 0
     Steps after r =
-        Leaves top room (stepped (worldOf (catalogueOf doc rows)) (room - top) at axis test (stood before top a)) (Ends a) before after r
+        Leaves top room (stepped (worldOf (catalogueOf doc rows)) (room - top) at axis test (stood before top a))
+        (Ends a) before after r
 
     s : Reaches doc rows axis test (row before top l) ms m
     s = subst (λ (xs : List ℤ). Reaches doc rows axis test xs ms m) (part-row before top l) part
@@ -85,13 +81,16 @@ module _
 
     reached :
         (after : List ℤ) (r : Stood) → m ≡ AllNodes →
-        Leaves top room (raised k (adding (room - top) at (length (row before top l)) nodes)) (At n) before after r → Steps after r
+        Leaves top room (raised k (adding (room - top) at (length (row before top l)) nodes)) (At n) before after r →
+        Steps after r
     unfolding stepped worldOf nodes
     reached after r d h =
         leaves-items top room before after r _ a l k n e
-        (leaves-gives top room (At n) before at _ _ after r _ (subst (Reaches doc rows axis test (row before top l) ms) d s) h)
+        (leaves-gives top room (At n) before at _ _ after r _
+        (subst (Reaches doc rows axis test (row before top l) ms) d s) h)
 
-    pub leaves-short : (c : ℕ) → m ≡ AllNodes → c ≡ length (ranks rows ms) → room - (top + l) < c → Steps before (Stood.Full at)
+    pub leaves-short :
+        (c : ℕ) → m ≡ AllNodes → c ≡ length (ranks rows ms) → room - (top + l) < c → Steps before (Stood.Full at)
     unfolding raising
     leaves-short c d q h =
         reached before (Stood.Full at) d
@@ -107,5 +106,6 @@ module _
         (leaves-as top room (At n) before after _ _ (Stood.Items c (max k (l + c)) n) (Stood.Items c o n) refl
         (ap (λ (x : ℕ). Stood.Items c x n) (sym t))
         (leaves-raised top room (At n) before after k _ (Stood.Items c (l + c) n) (fit .1)
-        (leaves-added top room at _ (At n) before nodes g after c (l + c) n (omega (arith, long, many, fit .0, fit .1)) p
+        (leaves-added top room at _ (At n) before nodes g after c (l + c) n (omega (arith, long, many, fit .0, fit .1))
+        p
         (many ∙ sym q) (omega (arith, long, many)) (λ e h. h))))

@@ -30,13 +30,15 @@ module _ (w : World) where
 
   -- a value in front
   behind-more :
-      (x y : ℤ) (xs vs : List ℤ) → w .value x ≡ gives y → behind vs (values w (x ∷ xs)) ≡ behind (vs ++ (y ∷ [])) (values w xs)
+      (x y : ℤ) (xs vs : List ℤ) → w .value x ≡ gives y →
+      behind vs (values w (x ∷ xs)) ≡ behind (vs ++ (y ∷ [])) (values w xs)
   unfolding behind values each attempt
   behind-more x y xs vs e = rw e (go (values w xs))
     where
       go :
           (a : Attempt (List ℤ)) →
-          attempt (attempt a (λ zs. gives (y ∷ zs))) (λ zs. gives (vs ++ zs)) ≡ attempt a (λ zs. gives ((vs ++ (y ∷ [])) ++ zs))
+          attempt (attempt a (λ zs. gives (y ∷ zs))) (λ zs. gives (vs ++ zs))
+          ≡ attempt a (λ zs. gives ((vs ++ (y ∷ [])) ++ zs))
       go fails = refl
       go (gives zs) = ap gives (sym (append-assoc vs (y ∷ []) zs))
 

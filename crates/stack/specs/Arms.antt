@@ -1,5 +1,5 @@
--- What each record does with what its operands left (document 01, 'Query records', 'Room'): the clauses of `evaluate`, each as
--- a function of its operands' outcomes.
+-- What each record does with what its operands left (document 01, 'Query records', 'Room'): the clauses of `evaluate`,
+-- each as a function of its operands' outcomes.
 --     rooted w room at k  QR: the root of fragment k
 --     raised k o          the same items, where at least k stood
 --     pairing o f         two operands, the second worked out behind the items of the first; f its outcome
@@ -9,8 +9,10 @@
 --     counted room at o   QC: the number of items
 --     valued w at o       QD: each item's value
 --     stepped w room at x t o     QX: a step
---     Reaches doc n x t xs ms m   m says whether every one of xs is a node; ms are the marks of the nodes that the step reaches
---     Valued w top n before after t    t says whether each of the n items from top on has a value; those values in its place
+--     Reaches doc n x t xs ms m   m says whether every one of xs is a node; ms are the marks of the nodes that the step
+--                                 reaches
+--     Valued w top n before after t    t says whether each of the n items from top on has a value; those values in its
+--                                      place
 use Prim.Native.Nat.{ℕ, _+_, max}
 use mathlib.Core.Path.{_≡_}
 use mathlib.Core.Bool.{Bool, true, false}

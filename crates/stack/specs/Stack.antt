@@ -1,5 +1,6 @@
 -- The stack: what stands in the lent cells from `top` on (document 01, 'Room').
---     stood cells top r       what an answer says, read from the cells: the items that stand there and their count, or 6, or 7
+--     stood cells top r       what an answer says, read from the cells: the items that stand there and their count, or
+--                             6, or 7
 --     Paired                  the items of two operands, and the count of what stood while they were worked out
 --     paired cells top p      what an answer for two operands says, read from the cells
 --     Fit, FitPair            the count of an answer is within the room, and its items within its count
@@ -13,10 +14,8 @@
 --     Lent top room cells     the stack stands within the room, and the room within the lent cells
 --     Leaves top room o E before after r    the answer r says what outcome o is; nothing below top has changed;
 --                             the operand ends where E says
---     Apart from n to         n cells from `from` on can be copied to `to`, from the first to the last
 use Prim.Native.Nat.{ℕ, _+_, _^_, _≤_, _<_, max}
 use mathlib.Core.Path.{_≡_}
-use mathlib.Core.Logic.{_⊎_}
 use mathlib.Core.List.{List}
 use lib.IntN.{ℤ}
 use lib.ListN.{length, take}
@@ -39,7 +38,8 @@ pub record Paired : Type 0 where
   pub count : ℕ
 
 unfoldable pub paired : List ℤ → ℕ → Pair → Work Paired
-paired cells top (Pair.Items l m k n) = done (record { first = row cells top l; second = row cells (top + l) m; count = k })
+paired cells top (Pair.Items l m k n) =
+    done (record { first = row cells top l; second = row cells (top + l) m; count = k })
 paired cells top (Pair.Full p) = full p
 paired cells top (Pair.Failed p) = failed p
 
@@ -102,6 +102,3 @@ pub record Leaves (top room : ℕ) (o : Work Standing) (E : ℕ → Type 0) (bef
   pub fit : Fit top room r
   pub stands : stood after top r ≡ o
   pub ends : (e : ℕ) → E e → Ends r e
-
-abbrev pub Apart : ℕ → ℕ → ℕ → Type 0
-Apart from n to = (to ≤ from) ⊎ (from + n ≤ to)

@@ -7,18 +7,18 @@ use steps::Marked;
 ghost use mathlib.Core.Path.{_≡_};
 ghost use mathlib.Core.List.{[], _∷_};
 ghost use Prim.Native.Nat.{ℕ, _+_, _-_, _*_, _≤_, _<_, max};
-ghost use lib.IntN.{pos};
-ghost use lib.ListN.{length, take};
-ghost use Rattle.laws.specs.Rows.{row, laid, padded};
+ghost use lib.ListN.{length};
+ghost use Rattle.laws.specs.Rows.{row};
 ghost use Rattle.meaning.specs.Catalogue.{Catalogue, catalogueOf};
 ghost use Rattle.meaning.specs.World.{worldOf};
 ghost use Rattle.meaning.specs.Counted.{adding};
 ghost use Rattle.steps.specs.Marks.{Ready};
-ghost use Rattle.stack.specs.Stack.{stood, paired, Fit, FitPair, Sums, EndsPair, Ends, At, Leaves, Lent, Apart, raising, joining, besiding, Adds};
+ghost use Rattle.stack.specs.Stack.{stood, paired, Fit, FitPair, Sums, EndsPair, Ends, At, Leaves, Lent};
+ghost use Rattle.stack.specs.Stack.{raising, joining, besiding, Adds};
 ghost use Rattle.stack.specs.Arms.{rooted, kept, applied, counted, valued, Valued, stepped, Reaches};
 
-// What an operand leaves on the stack: how many items stand there, the count of what stood while they were worked out, and
-// the offset after the operand; or refusal 6 or 7 and its place.
+// What an operand leaves on the stack: how many items stand there, the count of what stood while they were worked out,
+// and the offset after the operand; or refusal 6 or 7 and its place.
 pub enum Stood {
     Items {
         length: usize,
@@ -48,34 +48,11 @@ pub fn larger(a: usize, b: usize) -> usize
     if a < b { b } else { a }
 }
 
-// Copies n cells to `to`: down over themselves, or up past themselves.
-pub fn copy(work: &mut [i64], from: usize, n: usize, to: usize)
-    requires { ⌜ Apart from n to × (from + n ≤ length (now work)) × (to + n ≤ length (now work)) ⌝ }
-    ensures { λ r. ⌜ now (work .exit) ≡ laid (now (work .entry)) to (row (now (work .entry)) from n) ⌝ }
-{
-    let mut i: usize = 0;
-    while i < n {
-        work[to + i] = work[from + i];
-        i += 1;
-    }
-}
-
-// Zeroes every cell from `from` on.
-pub fn clear(work: &mut [i64], from: usize)
-    requires { ⌜ from ≤ length (now work) ⌝ }
-    ensures { λ r. ⌜ now (work .exit) ≡ padded (pos 0) (length (now (work .entry))) (take from (now (work .entry))) ⌝ }
-{
-    let mut i = from;
-    while i < work.len() {
-        work[i] = 0;
-        i += 1;
-    }
-}
-
 // Adds an item, where the room suffices; else refusal 6 at `at`.
 pub fn put(cell: i64, at: usize, next: usize, work: &mut [i64], top: usize, room: usize) -> Stood
     requires { ⌜ Lent top room (now work) ⌝ }
-    ensures { λ r. ⌜ Leaves top room (adding (room - top) at 0 (cell ∷ [])) (At next) (now (work .entry)) (now (work .exit)) r ⌝ }
+    ensures { λ r. ⌜ Leaves top room (adding (room - top) at 0 (cell ∷ [])) (At next) (now (work .entry))
+        (now (work .exit)) r ⌝ }
 {
     if top == room {
         return Stood::Full(at);
@@ -105,7 +82,7 @@ pub fn again(
     if room - top < n {
         return Stood::Full(at);
     }
-    copy(work, start, n, top);
+    lent::copy(work, start, n, top);
     Stood::Items {
         length: n,
         count: n,
@@ -125,7 +102,8 @@ pub fn root(
     room: usize,
 ) -> Stood
     requires { ⌜ (10 * rows ≤ length (now doc)) × (rows < 65536) × (1 ≤ k) × Lent top room (now work) ⌝ }
-    ensures { λ r. ⌜ Leaves top room (rooted (worldOf (catalogueOf (now (doc .entry)) rows)) (room - top) at k) (At next)
+    ensures { λ r. ⌜ Leaves top room (rooted (worldOf (catalogueOf (now (doc .entry)) rows)) (room - top) at k)
+        (At next)
         (now (work .entry)) (now (work .exit)) r ⌝ }
 {
     let found = items::root(doc, rows, k);
@@ -217,7 +195,8 @@ pub fn beside(length: usize, count: usize, second: Stood) -> Pair
 pub fn keep(pair: Pair, work: &mut [i64], top: usize) -> Stood
     requires { ⌜ FitPair top (length (now work)) pair ⌝ }
     ensures { λ r. ⌜ ((room : ℕ) → FitPair top room pair
-        → Leaves top room (kept (paired (now (work .entry)) top pair)) (EndsPair pair) (now (work .entry)) (now (work .exit)) r) ⌝ }
+        → Leaves top room (kept (paired (now (work .entry)) top pair)) (EndsPair pair) (now (work .entry))
+        (now (work .exit)) r) ⌝ }
 {
     let Pair::Items {
         first,
@@ -228,7 +207,7 @@ pub fn keep(pair: Pair, work: &mut [i64], top: usize) -> Stood
     else {
         return join(pair);
     };
-    copy(work, top + first, second, top);
+    lent::copy(work, top + first, second, top);
     Stood::Items {
         length: second,
         count,
@@ -236,7 +215,8 @@ pub fn keep(pair: Pair, work: &mut [i64], top: usize) -> Stood
     }
 }
 
-// A function of two sides that have been worked out: how many items each has, and the count; their cells stand from top on.
+// A function of two sides that have been worked out: how many items each has, and the count; their cells stand from top
+// on.
 fn function(
     f: Function,
     first: usize,
@@ -288,7 +268,8 @@ fn function(
 pub fn apply(f: Function, pair: Pair, at: usize, work: &mut [i64], top: usize) -> Stood
     requires { ⌜ FitPair top (length (now work)) pair ⌝ }
     ensures { λ r. ⌜ ((c : Catalogue) (room : ℕ) → FitPair top room pair → Leaves top room
-        (applied (worldOf c) at f (paired (now (work .entry)) top pair)) (EndsPair pair) (now (work .entry)) (now (work .exit)) r) ⌝ }
+        (applied (worldOf c) at f (paired (now (work .entry)) top pair)) (EndsPair pair) (now (work .entry))
+        (now (work .exit)) r) ⌝ }
 {
     let Pair::Items {
         first,
@@ -305,7 +286,8 @@ pub fn apply(f: Function, pair: Pair, at: usize, work: &mut [i64], top: usize) -
 // Puts the value of each of n items in its place; whether every one has a value.
 fn take_values(doc: &[u8], rows: usize, work: &mut [i64], top: usize, n: usize) -> bool
     requires { ⌜ (10 * rows ≤ length (now doc)) × (top + n ≤ length (now work)) ⌝ }
-    ensures { λ r. ⌜ Valued (worldOf (catalogueOf (now (doc .entry)) rows)) top n (now (work .entry)) (now (work .exit)) r ⌝ }
+    ensures { λ r. ⌜ Valued (worldOf (catalogueOf (now (doc .entry)) rows)) top n (now (work .entry)) (now (work .exit))
+        r ⌝ }
 {
     let mut i: usize = 0;
     while i < n {
@@ -330,7 +312,8 @@ pub fn values(
 ) -> Stood
     requires { ⌜ (10 * rows ≤ length (now doc)) × Fit top (length (now work)) operand ⌝ }
     ensures { λ r. ⌜ ((room : ℕ) → Fit top room operand → Leaves top room
-        (valued (worldOf (catalogueOf (now (doc .entry)) rows)) at (stood (now (work .entry)) top operand)) (Ends operand)
+        (valued (worldOf (catalogueOf (now (doc .entry)) rows)) at (stood (now (work .entry)) top operand))
+        (Ends operand)
         (now (work .entry)) (now (work .exit)) r) ⌝ }
 {
     let Stood::Items {
@@ -385,7 +368,8 @@ pub fn step(
 ) -> Stood
     requires { ⌜ Lent top room (now work) × Fit top room operand × Ready (now doc) rows (now from) (now to) ⌝ }
     ensures { λ r. ⌜ Leaves top room
-        (stepped (worldOf (catalogueOf (now (doc .entry)) rows)) (room - top) at axis test (stood (now (work .entry)) top operand))
+        (stepped (worldOf (catalogueOf (now (doc .entry)) rows)) (room - top) at axis test
+        (stood (now (work .entry)) top operand))
         (Ends operand) (now (work .entry)) (now (work .exit)) r ⌝ }
 {
     let Stood::Items {

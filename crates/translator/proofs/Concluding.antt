@@ -1,5 +1,4 @@
 -- The whole plan, and what the translator answers.
---     records-same       the number of records, as both laws count it
 --     whole-asked        an accepted query has room for its operators
 --     whole-room         and for the last two
 --     whole-wrote        the first operator, the query's, and the last two are the whole plan
@@ -11,60 +10,36 @@
 --     call-refused, call-read         what the call owes where the query is refused, and where it is read
 --     call-whole, call-concludes      what the whole plan is asked, and what its outcome gives the call
 --     hands-none, hands-is            the query check's answer, handed up
-use Prim.Native.Nat.{ℕ, zero, suc, _+_, _*_, _≤_, _<_}
-use mathlib.Core.Path.{_≡_, refl, sym, ap, ap₂, _∙_, subst}
-use mathlib.Core.List.{List, [], _∷_, _++_}
+use Prim.Native.Nat.{ℕ, _+_, _*_, _≤_, _<_}
+use mathlib.Core.Path.{_≡_, refl, sym, ap, ap₂, _∙_}
+use mathlib.Core.List.{List, [], _∷_}
 use native.Mathlib.Omega.{arith}
 use borrow.Author.Tests.{le-leb, lt-leb}
-use lib.Dec.{leb}
-use lib.ListN.{length, take, replicate, length-replicate, getD-replicate}
+use lib.ListN.{length, take, replicate, getD-replicate}
 use Rattle.laws.specs.Attempt.{gives, refuses, reads, reading, unless}
-use Rattle.meaning.specs.Plan.{Op, RT}
-use Rattle.meaning.specs.Query.{Query, QL, QE, QR, QV, QS, QT, QF, QI, QO, QC, QD, QX, Read, queryRead}
-use Rattle.meaning.specs.Translation.{Tables, next, tr, tailLast, plan}
+use Rattle.meaning.specs.Plan.{RT}
+use Rattle.meaning.specs.Query.{Query, Read, queryRead}
+use Rattle.meaning.specs.Translation.{next, tr, tailLast, plan}
 use Rattle.meaning.specs.Written.{written}
 use Rattle.meaning.specs.Calls.{Answer, Outcome, refusal, refused, planOf, translateOutcome, translateCall}
 use Rattle.laws.specs.Rows.{padded}
-use Rattle.theorems.proofs.Closed as Closed
 use Rattle.theorems.proofs.Closed.{records}
 use Rattle.queries.specs.declared.Checked.{Checked}
 use Rattle.queries.specs.declared.Checked.the-variants as Checked
 use Rattle.queries.specs.Decoded as Queries
 use Rattle.queries.specs.Parse.{parse}
-use Rattle.queries.specs.Statements.{Accepted}
 use Rattle.queries.proofs.Accepting.{query-accepted}
 use Rattle.writing.proofs.Penned.{cleared-from-0, cleared-penned}
 use Rattle.rules.specs.declared.Pen.{Pen}
 use Rattle.rules.specs.declared.Output.{Output}
-use Rattle.rules.specs.Ruled.{Room, Wrote, Ruled, Holds}
-use Rattle.rules.proofs.Adding.{wrote-then, wrote-room, wrote-length}
-use Rattle.translator.specs.Translating.{Tree, Asked, Makes}
+use Rattle.rules.specs.Ruled.{Room, Wrote, Holds}
+use Rattle.rules.proofs.Adding.{wrote-then, wrote-length}
+use Rattle.translating.specs.Translating.{Tree, Asked, Makes}
 use Rattle.translator.specs.Answers.{Whole, Concludes, answered}
 use Rattle.translator.specs.declared.Translated.{Translated}
-use Rattle.translator.proofs.Rooms.{room-less, room-after, ruled-own}
-use Rattle.translator.proofs.Splitting.{ruled-is}
-use Rattle.translator.proofs.Composing.{wrote-is}
-
--- a record over operands that are counted alike
-two-same : {a b c d : ℕ} → a ≡ b → c ≡ d → suc (a + c) ≡ suc (b + d)
-two-same e f = ap₂ (λ (i j : ℕ). suc (i + j)) e f
-
-pub records-same : (q : Query) → records q ≡ Closed.records q
-records-same q =
-    elim q as (λ q. records q ≡ Closed.records q) [
-      | QL at z ↦ refl
-      | QE at ↦ refl
-      | QR at k ↦ refl
-      | QV at v ↦ refl
-      | QS at (a → ha) (b → hb) ↦ two-same ha hb
-      | QT at v (a → ha) (b → hb) ↦ two-same ha hb
-      | QF at v (a → ha) (b → hb) ↦ two-same ha hb
-      | QI at (c → hc) (a → ha) (b → hb) ↦ two-same (ap₂ (λ (i j : ℕ). i + j) hc ha) hb
-      | QO at f (a → ha) (b → hb) ↦ two-same ha hb
-      | QC at (a → ha) ↦ ap (λ (i : ℕ). suc i) ha
-      | QD at (a → ha) ↦ ap (λ (i : ℕ). suc i) ha
-      | QX at x t (a → ha) ↦ ap (λ (i : ℕ). suc i) ha
-    ]
+use Rattle.translating.proofs.Rooms.{room-less, room-after, ruled-own}
+use Rattle.translating.proofs.Splitting.{ruled-is}
+use Rattle.translating.proofs.Composing.{wrote-is}
 
 -- where writing starts
 abbrev pub start : Pen
@@ -195,7 +170,7 @@ call-read bs lent r e = rw e
 pub call-whole : (bs : List ℕ) (r : Read) → queryRead bs ≡ reads r → Whole bs
 call-whole bs r e =
     let a = query-accepted bs r e in
-    record { q = r .tree; read = a .parses; few = omega (arith, a .few, records-same (r .tree)) }
+    record { q = r .tree; read = a .parses; few = a .few }
 
 pub call-concludes :
     (bs x z : List ℕ) (r : Read) (t : Translated) → queryRead bs ≡ reads r → Concludes bs x z t →

@@ -1,6 +1,2 @@
-pub mod Rooms
-pub mod Splitting
-pub mod Composing
-pub mod Dispatching
 pub mod Concluding
 pub mod Decided

@@ -1,2 +1,1 @@
-pub mod Translating
 pub mod Answers

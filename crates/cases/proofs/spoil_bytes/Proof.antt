@@ -5,8 +5,6 @@ use lib.ListN.{length}
 use borrow.Author.Needs.{needs}
 use Rattle.cases.proofs.spoil_bytes.Statement.{statement}
 use Rattle.cases.proofs.spoil_bytes.Tie as tie
-use Rattle.cases.proofs.spoil_bytes.Reads as reads
-use Rattle.cases.proofs.spoil_bytes.Lts as lts
 
 abbrev Inv-loop : tie.InvT-loop
 Inv-loop lent₀ i₀ lent i = (i ≤ length lent₀) × (length lent ≡ length lent₀)
@@ -14,31 +12,24 @@ Inv-loop lent₀ i₀ lent i = (i ≤ length lent₀) × (length lent ≡ length
 abbrev μ-loop : tie.MeasureT-loop
 μ-loop lent₀ i₀ lent i = length lent₀ - i
 
--- src/lib.rt:126:5
 loop-holds : tie.Need-loop-holds Inv-loop μ-loop
 loop-holds c = search needs
 
--- src/lib.rt:127:9
 slice-write-lent : tie.Need-slice-write-lent Inv-loop μ-loop
 slice-write-lent c = search needs
 
--- src/lib.rt:128:9
 add-i : tie.Need-add-i Inv-loop μ-loop
 add-i c = search needs
 
--- src/lib.rt:126:5
 loop-less : tie.Need-loop-less Inv-loop μ-loop
 loop-less c = search needs
 
--- src/lib.rt:126:5
 loop-again : tie.Need-loop-again Inv-loop μ-loop
 loop-again c = search needs
 
--- src/lib.rt:122:1
 same-length : tie.Need-same-length Inv-loop μ-loop
 same-length c = search needs
 
--- src/lib.rt:122:1
 returns : tie.Need-returns Inv-loop μ-loop
 returns c = search needs
 

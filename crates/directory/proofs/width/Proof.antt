@@ -22,20 +22,23 @@ wide-requires c κs = (named-stand _ _ _ (c .before .before .before .tables .ens
     (c .before .before .before .before .before .pre) _ _ (c .before .named .given .1)) .0
 
 wide-requires-2 : tie.Need-wide-requires-2
-wide-requires-2 c κs = (named-stand _ _ _ (c .before .before .before .before .tables .ensures)
-    (c .before .before .before .before .before .before .pre) _ _ (c .before .before .named .given .1)) .1
+wide-requires-2 c κs =
+    let at-named = c .before .before in
+    let at-tables = at-named .before .before in
+    named-stand _ _ _ (at-tables .tables .ensures) (at-tables .before .before .pre) _ _ (at-named .named .given .1) .1
 
 made-width-requires : tie.Need-made-width-requires
 made-width-requires c κs =
-    let h = named-stand _ _ _ (c .before .before .before .before .before .tables .ensures)
-    (c .before .before .before .before .before .before .before .pre) _ _
-    (c .before .before .before .named .given .1) in
+    let at-named = c .before .before .before in
+    let at-tables = at-named .before .before in
+    let h =
+    named-stand _ _ _ (at-tables .tables .ensures) (at-tables .before .before .pre) _ _ (at-named .named .given .1) in
     (omega (arith, h .2, c .before .wide .ensures), omega (arith, h .3, c .wide2 .ensures))
 
 returns-2 : tie.Need-returns-2
 returns-2 c =
-    made-of _ _ _ (c .before .before .before .before .before .before .tables .ensures) _ _ _ _ _
-    (c .before .before .before .before .named .given .1)
+    let at-named = c .before .before .before .before in
+    made-of _ _ _ (at-named .before .before .tables .ensures) _ _ _ _ _ (at-named .named .given .1)
     (c .before .before .wide .ensures) (c .before .wide2 .ensures) (c .made-width .ensures)
 
 pub width-spec : {M : Type 1} → statement M

@@ -1,6 +1,7 @@
 -- `evaluate` meets its contract: query, then catalogue, then work.
 use native.Mathlib.Omega.{arith}
-use Rattle.evaluator.proofs.Scoping.{scoped-nothing}
+use Rattle.meaning.specs.Calls.{room}
+use Rattle.working.proofs.Scoping.{scoped-nothing}
 use Rattle.evaluator.proofs.Calling.{call-refused, call-unsound, known-accepted, left-within, call-concluded}
 use borrow.Author.Needs.{needs}
 use Rattle.evaluator.proofs.evaluate.Statement.{statement}
@@ -63,17 +64,18 @@ returns-2 c =
     (d .result) (d .ensures) _ (at-enum-told2 .enum-told2 .given .1) (c .unsound .ensures)
     (at-clear2 .clear2 .ensures)
 
-smaller-requires : tie.Need-smaller-requires
-smaller-requires c κs = search needs
+room-of-requires : tie.Need-room-of-requires
+room-of-requires c κs = search needs
 
 work-out-requires : tie.Need-work-out-requires
+unfolding room
 work-out-requires c κs =
-    let at-smaller = c .before in
-    let at-sound = at-smaller .before .before in
+    let at-room-of = c .before in
+    let at-sound = at-room-of .before .before in
     let at-check2 = at-sound .before .before in
     let start = at-check2 .before .before .before .before .before .before in
     let d = at-check2 .check2 in
-    let e = at-smaller .smaller .ensures in (
+    let e = at-room-of .room-of .ensures in (
       known-accepted (start .args .doc .now) (d .result) (d .ensures) _ (at-sound .sound .given .1),
       scoped-nothing,
       record { low = omega arith; lent = omega (arith, e) },
@@ -83,11 +85,12 @@ items-left-requires : tie.Need-items-left-requires
 items-left-requires c κs = search needs
 
 clear-requires-3 : tie.Need-clear-requires-3
+unfolding room
 clear-requires-3 c κs =
     let at-work-out = c .before .before .before in
-    let at-smaller = at-work-out .before .before in
+    let at-room-of = at-work-out .before .before in
     let w = at-work-out .work-out in
-    let s = at-smaller .smaller in
+    let s = at-room-of .room-of in
     left-within (s .result) _ (w .last .1 .1 .1 .1 .1 .1 .0) (w .result)
     (omega (arith, s .ensures, w .kept .1 .1 .1 .1 .1 .1 .0)) (w .ensures .fit) (c .items-left .ensures)
 
@@ -102,8 +105,8 @@ returns-3 c =
     let at-clear3 = c .before .before in
     let at-items-left = at-clear3 .before in
     let at-work-out = at-items-left .before .before .before in
-    let at-smaller = at-work-out .before .before in
-    let at-sound = at-smaller .before .before in
+    let at-room-of = at-work-out .before .before in
+    let at-sound = at-room-of .before .before in
     let at-check2 = at-sound .before .before in
     let at-enum-told = at-check2 .before in
     let at-check = at-enum-told .before .before in
@@ -112,7 +115,7 @@ returns-3 c =
     let w = at-work-out .work-out in
     call-concluded _ _ _ _ _ (q .result) (q .ensures) _ (at-enum-told .enum-told .given .1) (d .result) (d .ensures) _
     (at-sound .sound .given .1)
-    _ _ _ _ (at-smaller .smaller .ensures) (w .kept .1 .1 .1 .1 .1 .1 .0) (w .ensures)
+    _ _ _ _ (at-room-of .room-of .ensures) (w .kept .1 .1 .1 .1 .1 .1 .0) (w .ensures)
     (at-items-left .items-left .ensures) (at-clear3 .clear3 .ensures) (c .concluded .ensures)
 
 pub evaluate-spec : {M : Type 1} → statement M
@@ -132,7 +135,7 @@ evaluate-spec =
     unsound-requires
     same-length-2
     returns-2
-    smaller-requires
+    room-of-requires
     work-out-requires
     items-left-requires
     clear-requires-3

@@ -2,9 +2,6 @@ use borrow.Author.Needs.{needs}
 use Rattle.rules.proofs.Adding.{wrote-one}
 use Rattle.rules.proofs.add.Statement.{statement}
 use Rattle.rules.proofs.add.Tie as tie
-use Rattle.rules.proofs.add.Reads as reads
-use Rattle.rules.proofs.add.Lts as lts
-use Rattle.rules.proofs.write.Reads as write-reads
 
 write-requires : tie.Need-write-requires
 write-requires c κs = search needs

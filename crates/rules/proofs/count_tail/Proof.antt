@@ -9,9 +9,6 @@ use lib.Dec.{lit≤}
 use Rattle.rules.proofs.Adding.{wrote-then, wrote-room, wrote-length}
 use Rattle.rules.proofs.count_tail.Statement.{statement}
 use Rattle.rules.proofs.count_tail.Tie as tie
-use Rattle.rules.proofs.count_tail.Reads as reads
-use Rattle.rules.proofs.count_tail.Lts as lts
-use Rattle.rules.proofs.add.Reads as add-reads
 
 add-requires : tie.Need-add-requires
 add-requires c κs = search needs
@@ -52,11 +49,13 @@ add-requires-6 c κs =
 
 add-t22-5 : tie.Need-add-t22-5
 add-t22-5 c =
-    omega (
-      arith,
-      c .before .before .before .before .before .before .before .before .before .before .before .before
-          .before .before .before .before .before .before .before .before .before .before .before .before .before .before .pre,
-    )
+    let p6 = c .before .before .before in
+    let p5 = p6 .before .before .before .before in
+    let p4 = p5 .before .before .before .before in
+    let p3 = p4 .before .before .before .before in
+    let p2 = p3 .before .before .before .before in
+    let p1 = p2 .before .before .before .before in
+    omega (arith, p1 .before .before .before .pre)
 
 add-requires-7 : tie.Need-add-requires-7
 add-requires-7 c κs =
@@ -72,12 +71,14 @@ add-requires-7 c κs =
 
 add-t22-6 : tie.Need-add-t22-6
 add-t22-6 c =
-    omega (
-      arith,
-      c .before .before .before .before .before .before .before .before .before .before .before .before
-          .before .before .before .before .before .before .before .before .before .before .before .before .before .before
-          .before .before .before .pre,
-    )
+    let p7 = c .before .before in
+    let p6 = p7 .before .before .before .before in
+    let p5 = p6 .before .before .before .before in
+    let p4 = p5 .before .before .before .before in
+    let p3 = p4 .before .before .before .before in
+    let p2 = p3 .before .before .before .before in
+    let p1 = p2 .before .before .before .before in
+    omega (arith, p1 .before .before .before .pre)
 
 same-length : tie.Need-same-length
 same-length c =

@@ -7,9 +7,6 @@ use Rattle.meaning.specs.Translation.{tailD}
 use Rattle.rules.proofs.Adding.{wrote-then}
 use Rattle.rules.proofs.data_tail.Statement.{statement}
 use Rattle.rules.proofs.data_tail.Tie as tie
-use Rattle.rules.proofs.data_tail.Reads as reads
-use Rattle.rules.proofs.data_tail.Lts as lts
-use Rattle.rules.proofs.add.Reads as add-reads
 
 add-requires : tie.Need-add-requires
 add-requires c κs = search needs

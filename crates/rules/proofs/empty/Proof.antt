@@ -7,9 +7,6 @@ use Rattle.meaning.specs.Translation.{ruleE}
 use Rattle.rules.proofs.Adding.{wrote-then}
 use Rattle.rules.proofs.empty.Statement.{statement}
 use Rattle.rules.proofs.empty.Tie as tie
-use Rattle.rules.proofs.empty.Reads as reads
-use Rattle.rules.proofs.empty.Lts as lts
-use Rattle.rules.proofs.add.Reads as add-reads
 
 add-requires : tie.Need-add-requires
 add-requires c κs = search needs

@@ -4,8 +4,6 @@ use native.Mathlib.Omega.{arith}
 use lib.Seq.{set-out}
 use Rattle.rules.proofs.hold.Statement.{statement}
 use Rattle.rules.proofs.hold.Tie as tie
-use Rattle.rules.proofs.hold.Reads as reads
-use Rattle.rules.proofs.hold.Lts as lts
 
 mul-row : tie.Need-mul-row
 mul-row c = search needs

@@ -5,9 +5,6 @@ use Rattle.writing.specs.Listed.{columnsOf, keysOf}
 use Rattle.rules.specs.Ruled.{operatorOf, choice}
 use Rattle.rules.proofs.if_tail.Statement.{statement}
 use Rattle.rules.proofs.if_tail.Tie as tie
-use Rattle.rules.proofs.if_tail.Reads as reads
-use Rattle.rules.proofs.if_tail.Lts as lts
-use Rattle.rules.proofs.add.Reads as add-reads
 
 add-requires : tie.Need-add-requires
 add-requires c κs = search needs

@@ -1,15 +1,11 @@
 -- `last` meets its contract: one operator after another.
 use borrow.Author.Needs.{needs}
-use mathlib.Core.Path.{refl}
 use Rattle.writing.specs.Listed.{columnsOf, keysOf}
 use Rattle.rules.specs.Ruled.{operatorOf}
 use Rattle.meaning.specs.Translation.{tailLast}
 use Rattle.rules.proofs.Adding.{wrote-then}
 use Rattle.rules.proofs.last.Statement.{statement}
 use Rattle.rules.proofs.last.Tie as tie
-use Rattle.rules.proofs.last.Reads as reads
-use Rattle.rules.proofs.last.Lts as lts
-use Rattle.rules.proofs.add.Reads as add-reads
 
 add-requires : tie.Need-add-requires
 add-requires c κs = search needs

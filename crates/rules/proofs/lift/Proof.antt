@@ -10,9 +10,6 @@ use Rattle.rules.proofs.Adding.{wrote-length}
 use Rattle.rules.proofs.Lifting.{lifts-none, lifts-room, lifts-more}
 use Rattle.rules.proofs.lift.Statement.{statement}
 use Rattle.rules.proofs.lift.Tie as tie
-use Rattle.rules.proofs.lift.Reads as reads
-use Rattle.rules.proofs.lift.Lts as lts
-use Rattle.rules.proofs.lift_one.Reads as lift-one-reads
 
 abbrev Inv-loop : tie.InvT-loop
 Inv-loop plan₀ m first flags done₀ v₀ plan done v =
@@ -30,8 +27,9 @@ array-read-lift-one c = omega arith
 
 lift-one-requires : tie.Need-lift-one-requires Inv-loop μ-loop
 lift-one-requires c κs =
-    let l = c .before .before .before .before .loop in
-    let start = c .before .before .before .before .before .before in
+    let at-loop = c .before .before .before .before in
+    let l = at-loop .loop in
+    let start = at-loop .before .before in
     (lifts-room _ _ _ (start .args .t4) (l .v) _ _ _ _ (l .inv .1) (omega arith) (start .pre), omega arith)
 
 add-v : tie.Need-add-v Inv-loop μ-loop
@@ -42,9 +40,11 @@ loop-less c = omega arith
 
 loop-again : tie.Need-loop-again Inv-loop μ-loop
 loop-again c =
-    let l = c .before .before .before .before .before .before .before .loop in
-    let start = c .before .before .before .before .before .before .before .before .before in
-    let one = c .before .before .lift-one in (
+    let lifted = c .before .before in
+    let at-loop = lifted .before .before .before .before .before in
+    let l = at-loop .loop in
+    let start = at-loop .before .before in
+    let one = lifted .lift-one in (
       omega arith,
       lifts-more _ _ _ (start .args .t4) (l .v) _ _ _ _ _ _ (omega arith) (l .inv .1) (one .ensures),
     )

@@ -7,10 +7,6 @@ use Rattle.rules.proofs.Adding.{wrote-then}
 use Rattle.rules.proofs.Lifting.{lifts-none, lifts-one}
 use Rattle.rules.proofs.lift_one.Statement.{statement}
 use Rattle.rules.proofs.lift_one.Tie as tie
-use Rattle.rules.proofs.lift_one.Reads as reads
-use Rattle.rules.proofs.lift_one.Lts as lts
-use Rattle.rules.proofs.add.Reads as add-reads
-use Rattle.rules.proofs.hold.Reads as hold-reads
 
 returns : tie.Need-returns
 returns c = rw (not-true (c .before .before .args .flag) (c .if1 .taken)) (lifts-none _ _ _ _ _)

@@ -7,9 +7,6 @@ use Rattle.meaning.specs.Translation.{ruleL}
 use Rattle.rules.proofs.Adding.{wrote-then, wrote-cell}
 use Rattle.rules.proofs.literal.Statement.{statement}
 use Rattle.rules.proofs.literal.Tie as tie
-use Rattle.rules.proofs.literal.Reads as reads
-use Rattle.rules.proofs.literal.Lts as lts
-use Rattle.rules.proofs.add.Reads as add-reads
 
 add-requires : tie.Need-add-requires
 add-requires c κs = search needs

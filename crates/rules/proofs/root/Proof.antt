@@ -7,9 +7,6 @@ use Rattle.meaning.specs.Translation.{ruleR}
 use Rattle.rules.proofs.Adding.{wrote-then}
 use Rattle.rules.proofs.root.Statement.{statement}
 use Rattle.rules.proofs.root.Tie as tie
-use Rattle.rules.proofs.root.Reads as reads
-use Rattle.rules.proofs.root.Lts as lts
-use Rattle.rules.proofs.add.Reads as add-reads
 
 add-requires : tie.Need-add-requires
 add-requires c κs = search needs

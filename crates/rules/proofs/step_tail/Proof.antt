@@ -7,9 +7,6 @@ use Rattle.meaning.specs.Translation.{tailX}
 use Rattle.rules.proofs.Adding.{wrote-then}
 use Rattle.rules.proofs.step_tail.Statement.{statement}
 use Rattle.rules.proofs.step_tail.Tie as tie
-use Rattle.rules.proofs.step_tail.Reads as reads
-use Rattle.rules.proofs.step_tail.Lts as lts
-use Rattle.rules.proofs.add.Reads as add-reads
 
 add-requires : tie.Need-add-requires
 add-requires c κs = search needs

@@ -4,8 +4,6 @@ use native.Mathlib.Omega.{arith}
 use lib.ListN.{List·getD-eq-default}
 use Rattle.rules.proofs.table_of.Statement.{statement}
 use Rattle.rules.proofs.table_of.Tie as tie
-use Rattle.rules.proofs.table_of.Reads as reads
-use Rattle.rules.proofs.table_of.Lts as lts
 
 mul-result : tie.Need-mul-result
 mul-result c = search needs

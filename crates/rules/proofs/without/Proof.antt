@@ -4,8 +4,6 @@ use native.Mathlib.Omega.{arith}
 use lib.Seq.{set-out}
 use Rattle.rules.proofs.without.Statement.{statement}
 use Rattle.rules.proofs.without.Tie as tie
-use Rattle.rules.proofs.without.Reads as reads
-use Rattle.rules.proofs.without.Lts as lts
 
 array-write-row : tie.Need-array-write-row
 array-write-row c = search needs

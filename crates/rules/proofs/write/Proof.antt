@@ -4,23 +4,6 @@ use Rattle.rules.specs.Ruled.{operatorOf}
 use Rattle.rules.proofs.Adding.{pens-of, pens-cell}
 use Rattle.rules.proofs.write.Statement.{statement}
 use Rattle.rules.proofs.write.Tie as tie
-use Rattle.rules.proofs.write.Reads as reads
-use Rattle.rules.proofs.write.Lts as lts
-use Rattle.writing.proofs.apply.Reads as apply-reads
-use Rattle.writing.proofs.attach.Reads as attach-reads
-use Rattle.writing.proofs.counts.Reads as counts-reads
-use Rattle.writing.proofs.join.Reads as join-reads
-use Rattle.writing.proofs.minus.Reads as minus-reads
-use Rattle.writing.proofs.number.Reads as number-reads
-use Rattle.writing.proofs.once.Reads as once-reads
-use Rattle.writing.proofs.one.Reads as one-reads
-use Rattle.writing.proofs.project.Reads as project-reads
-use Rattle.writing.proofs.root.Reads as root-reads
-use Rattle.writing.proofs.select.Reads as select-reads
-use Rattle.writing.proofs.step.Reads as step-reads
-use Rattle.writing.proofs.truths.Reads as truths-reads
-use Rattle.writing.proofs.union.Reads as union-reads
-use Rattle.writing.proofs.value.Reads as value-reads
 
 enum-told : tie.Need-enum-told
 enum-told c = search needs

@@ -35,29 +35,39 @@ bad-catalogue-requires c κs = search needs
 
 returns-2 : tie.Need-returns-2
 returns-2 c =
-    bad-catalogue-leaves _ _ (c .before .before .before .check2 .ensures) _ _ _ _ _
-    (accepted _ _ (c .before .before .before .before .before .before .check .ensures) _
-    (c .before .before .before .before .enum-told .given .1)) refl
-    (c .before .enum-told3 .given .1) (c .bad-catalogue .ensures)
+    let at-check2 = c .before .before .before in
+    let at-told = at-check2 .before in
+    let at-check = at-told .before .before in
+    bad-catalogue-leaves _ _ (at-check2 .check2 .ensures) _ _ _ _ _
+    (accepted _ _ (at-check .check .ensures) _ (at-told .enum-told .given .1)) refl (c .before .enum-told3 .given .1)
+    (c .bad-catalogue .ensures)
 
 work-out-requires : tie.Need-work-out-requires
-work-out-requires c κs = (
-  accepted _ _ (c .before .before .before .before .before .before .before .check .ensures) _
-      (c .before .before .before .before .before .enum-told .given .1),
-  known-rows _ _
-      (c .before .before .before .before .check2 .ensures) _ (c .before .before .sound .given .1),
-)
+work-out-requires c κs =
+    let at-sound = c .before .before in
+    let at-check2 = at-sound .before .before in
+    let at-told = at-check2 .before in
+    let at-check = at-told .before .before in (
+      accepted _ _ (at-check .check .ensures) _ (at-told .enum-told .given .1),
+      known-rows _ _ (at-check2 .check2 .ensures) _ (at-sound .sound .given .1),
+    )
 
 same-length : tie.Need-same-length
 same-length c = search needs
 
+concluded-requires : tie.Need-concluded-requires
+concluded-requires c κs = search needs
+
 returns-3 : tie.Need-returns-3
 returns-3 c =
-    run-leaves _ _ (c .before .before .before .before .before .before .check2 .ensures) _
-    (c .before .before .before .before .sound .given .1) _ _ _ _
-    (accepted _ _ (c .before .before .before .before .before .before .before .before .before .check .ensures) _
-    (c .before .before .before .before .before .before .before .enum-told .given .1))
-    (c .before .work-out .ensures)
+    let at-work-out = c .before .before in
+    let at-sound = at-work-out .before .before .before in
+    let at-check2 = at-sound .before .before in
+    let at-told = at-check2 .before in
+    let at-check = at-told .before .before in
+    run-leaves _ _ (at-check2 .check2 .ensures) _ (at-sound .sound .given .1) _ _ _ _ _
+    (accepted _ _ (at-check .check .ensures) _ (at-told .enum-told .given .1)) (at-work-out .work-out .kept .1 .1 .1 .0)
+    (at-work-out .work-out .ensures) (c .concluded .ensures)
 
 pub attempt-spec : {M : Type 1} → statement M
 attempt-spec =
@@ -74,5 +84,6 @@ attempt-spec =
     bad-catalogue-requires
     returns-2
     work-out-requires
+    concluded-requires
     same-length
     returns-3)

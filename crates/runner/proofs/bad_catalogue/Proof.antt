@@ -1,6 +1,6 @@
 -- `runner::bad_catalogue` meets its contract.
 use mathlib.Core.Path.{sym, ap}
-use Rattle.runner.specs.Leaving.{badCatalogue}
+use Rattle.runner.specs.Answers.{badCatalogue}
 use borrow.Author.Needs.{needs}
 use Rattle.runner.proofs.bad_catalogue.Statement.{statement}
 use Rattle.runner.proofs.bad_catalogue.Tie as tie

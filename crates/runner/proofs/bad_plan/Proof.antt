@@ -1,6 +1,6 @@
 -- `runner::bad_plan` meets its contract.
 use mathlib.Core.Path.{sym, ap}
-use Rattle.runner.specs.Leaving.{badPlan}
+use Rattle.runner.specs.Answers.{badPlan}
 use borrow.Author.Needs.{needs}
 use Rattle.runner.proofs.bad_plan.Statement.{statement}
 use Rattle.runner.proofs.bad_plan.Tie as tie

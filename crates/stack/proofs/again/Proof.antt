@@ -6,37 +6,33 @@ use Rattle.stack.proofs.Leaving.{leaves-crowded, leaves-added}
 use borrow.Author.Needs.{needs}
 use Rattle.stack.proofs.again.Statement.{statement}
 use Rattle.stack.proofs.again.Tie as tie
-use Rattle.stack.proofs.again.Reads as reads
-use Rattle.stack.proofs.again.Lts as lts
-use Rattle.stack.proofs.copy.Reads as copy-reads
 
--- src/lib.rt:101:8
 sub-if1 : tie.Need-sub-if1
 sub-if1 c = search needs
 
--- src/lib.rt:102:9
 returns : tie.Need-returns
 returns c =
     let a = c .before in
+    let s = length-row (a .args .work .now) (a .args .start) (a .args .n)
+    (omega (arith, a .pre .0 .low, a .pre .0 .lent)) in
     leaves-crowded _ _ _ _ _ _ _ (a .pre .0)
-    (omega (arith, a .pre .0 .low, a .pre .0 .lent, length-row (a .args .work .now) (a .args .start) (a .args .n) (omega (arith, a .pre .0 .low, a .pre .0 .lent))))
+    (omega (arith, a .pre .0 .low, a .pre .0 .lent, s))
 
--- src/lib.rt:104:5
 copy-requires : tie.Need-copy-requires
 copy-requires c κs =
     let a = c .before .before in
     (inr (a .pre .1), omega (arith, a .pre .0 .low, a .pre .0 .lent), omega (arith, a .pre .0 .low, a .pre .0 .lent))
 
--- src/lib.rt:96:1
 same-length : tie.Need-same-length
 same-length c = search needs
 
--- src/lib.rt:96:1
 returns-2 : tie.Need-returns-2
 returns-2 c =
     let a = c .before .before .before .before in
-    let s = length-row (a .args .work .now) (a .args .start) (a .args .n) (omega (arith, a .pre .0 .low, a .pre .0 .lent)) in
-    leaves-added _ _ _ _ _ _ _ (a .pre .0) _ _ _ _ (omega (arith, c .before .before .before .if1 .left)) (c .before .copy .ensures) s (omega arith) (λ e h. h)
+    let s = length-row (a .args .work .now) (a .args .start) (a .args .n)
+    (omega (arith, a .pre .0 .low, a .pre .0 .lent)) in
+    leaves-added _ _ _ _ _ _ _ (a .pre .0) _ _ _ _ (omega (arith, c .before .before .before .if1 .left))
+    (c .before .copy .ensures) s (omega arith) (λ e h. h)
 
 pub again-spec : {M : Type 1} → statement M
 again-spec = tie.close (tie.spec sub-if1 returns copy-requires same-length returns-2)

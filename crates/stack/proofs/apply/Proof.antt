@@ -7,40 +7,32 @@ use Rattle.stack.proofs.Leaving.{leaves-pair, leaves-as, pair-stopped, 
 use borrow.Author.Needs.{needs}
 use Rattle.stack.proofs.apply.Statement.{statement}
 use Rattle.stack.proofs.apply.Tie as tie
-use Rattle.stack.proofs.apply.Reads as reads
-use Rattle.stack.proofs.apply.Lts as lts
-use Rattle.stack.proofs.function.Reads as function-reads
-use Rattle.stack.proofs.join.Reads as join-reads
 
--- src/lib.rt:251:9
 enum-known-pair : tie.Need-enum-known-pair
 enum-known-pair c = search needs
 
--- src/lib.rt:257:9
 join-requires : tie.Need-join-requires
 join-requires c κs = fit-sums (c .before .args .top) _ (c .before .args .pair) (c .before .pre)
 
--- src/lib.rt:257:9
 returns : tie.Need-returns
 unfolding applied
-returns c = λ w room f. leaves-as _ _ _ _ _ _ _ _ _ refl (sym (c .join .ensures)) (pair-stopped _ room _ _ _ (c .before .match .keys2))
+returns c = λ w room f.
+    leaves-as _ _ _ _ _ _ _ _ _ refl (sym (c .join .ensures)) (pair-stopped _ room _ _ _ (c .before .match .keys2))
 
--- src/lib.rt:259:5
 function-requires : tie.Need-function-requires
 function-requires c κs =
     let a = c .before .before .before .before in
     subst (FitPair _ _) (c .before .before .pair .given .1) (a .pre)
 
--- src/lib.rt:245:1
 same-length : tie.Need-same-length
 same-length c = search needs
 
--- src/lib.rt:245:1
 returns-2 : tie.Need-returns-2
 unfolding applied paired work
 returns-2 c = λ w room f.
     let p = c .before .before .before .before .pair .given in
-    leaves-pair _ room _ _ _ _ _ _ _ _ _ (p .1) (c .before .function .ensures w room (subst (FitPair _ room) (p .1) f .1))
+    leaves-pair _ room _ _ _ _ _ _ _ _ _ (p .1)
+    (c .before .function .ensures w room (subst (FitPair _ room) (p .1) f .1))
 
 pub apply-spec : {M : Type 1} → statement M
 apply-spec =

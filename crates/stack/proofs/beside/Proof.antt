@@ -6,44 +6,36 @@ use Rattle.stack.specs.Stack.{besiding, Adds}
 use borrow.Author.Needs.{needs}
 use Rattle.stack.proofs.beside.Statement.{statement}
 use Rattle.stack.proofs.beside.Tie as tie
-use Rattle.stack.proofs.beside.Reads as reads
-use Rattle.stack.proofs.beside.Lts as lts
-use Rattle.stack.proofs.larger.Reads as larger-reads
 
--- src/lib.rt:183:21
 enum-known-second : tie.Need-enum-known-second
 enum-known-second c = search needs
 
--- src/lib.rt:189:34
 add-larger : tie.Need-add-larger
-add-larger c = record { fits = subst (Adds (c .before .before .before .args .length)) (c .before .second .given .1) (c .before .before .before .pre) }
+add-larger c =
+    let start = c .before .before .before in
+    record { fits = subst (Adds (start .args .length)) (c .before .second .given .1) (start .pre) }
 
--- src/lib.rt:189:20
 larger-requires : tie.Need-larger-requires
 larger-requires c κs = search needs
 
--- src/lib.rt:192:21
 enum-known-second-2 : tie.Need-enum-known-second-2
 enum-known-second-2 c = search needs
 
--- src/lib.rt:193:23
 enum-known-second-3 : tie.Need-enum-known-second-3
 enum-known-second-3 c = search needs
 
--- src/lib.rt:177:1
 returns : tie.Need-returns
 unfolding besiding
 returns c =
     let a = c .before .before .second .given .0 in
-    ap (λ (k : ℕ). Pair.Items (c .before .before .before .before .args .length) (a .0) k (a .1 .1 .0)) (c .larger .ensures)
+    let start = c .before .before .before .before in
+    ap (λ (k : ℕ). Pair.Items (start .args .length) (a .0) k (a .1 .1 .0)) (c .larger .ensures)
     ∙ sym (ap (besiding _ _) (c .before .before .second .given .1))
 
--- src/lib.rt:177:1
 returns-2 : tie.Need-returns-2
 unfolding besiding
 returns-2 c = sym (ap (besiding _ _) (c .before .second2 .given .1))
 
--- src/lib.rt:177:1
 returns-3 : tie.Need-returns-3
 unfolding besiding
 returns-3 c = sym (ap (besiding _ _) (c .before .second3 .given .1))

@@ -6,39 +6,30 @@ use Rattle.stack.specs.Stack.{joining, Sums}
 use borrow.Author.Needs.{needs}
 use Rattle.stack.proofs.join.Statement.{statement}
 use Rattle.stack.proofs.join.Tie as tie
-use Rattle.stack.proofs.join.Reads as reads
-use Rattle.stack.proofs.join.Lts as lts
 
--- src/lib.rt:168:13
 enum-known-pair : tie.Need-enum-known-pair
 enum-known-pair c = search needs
 
--- src/lib.rt:173:21
 add-t9 : tie.Need-add-t9
 add-t9 c =
     let f : c .before .pair .given .0 .0 + c .before .pair .given .0 .1 .0 ≤ c .before .pair .given .0 .1 .1 .0 =
     subst Sums (c .before .pair .given .1) (c .before .before .before .pre) in
     omega arith
 
--- src/lib.rt:177:20
 enum-known-pair-2 : tie.Need-enum-known-pair-2
 enum-known-pair-2 c = search needs
 
--- src/lib.rt:178:22
 enum-known-pair-3 : tie.Need-enum-known-pair-3
 enum-known-pair-3 c = search needs
 
--- src/lib.rt:162:1
 returns : tie.Need-returns
 unfolding joining
 returns c = sym (ap joining (c .before .pair .given .1))
 
--- src/lib.rt:162:1
 returns-2 : tie.Need-returns-2
 unfolding joining
 returns-2 c = sym (ap joining (c .before .pair2 .given .1))
 
--- src/lib.rt:162:1
 returns-3 : tie.Need-returns-3
 unfolding joining
 returns-3 c = sym (ap joining (c .before .pair3 .given .1))

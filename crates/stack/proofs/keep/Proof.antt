@@ -12,59 +12,52 @@ use Rattle.stack.proofs.Leaving.{leaves-pair, leaves-as, leaves-laid, p
 use borrow.Author.Needs.{needs}
 use Rattle.stack.proofs.keep.Statement.{statement}
 use Rattle.stack.proofs.keep.Tie as tie
-use Rattle.stack.proofs.keep.Reads as reads
-use Rattle.stack.proofs.keep.Lts as lts
-use Rattle.stack.proofs.copy.Reads as copy-reads
-use Rattle.stack.proofs.join.Reads as join-reads
 
 -- the items of both operands stand within the cells
 fit :
     (c : tie.After-known-told) →
-    (c .before .pair .given .0 .0 + c .before .pair .given .0 .1 .0 ≤ c .before .pair .given .0 .1 .1 .0)
-    × (c .before .before .before .args .top + c .before .pair .given .0 .1 .1 .0 ≤ length (c .before .before .before .args .work .now))
+    let a = c .before .before .before .args in
+    let p = c .before .pair .given .0 in
+    (p .0 + p .1 .0 ≤ p .1 .1 .0) × (a .top + p .1 .1 .0 ≤ length (a .work .now))
 fit c = subst (FitPair _ _) (c .before .pair .given .1) (c .before .before .before .pre)
 
--- src/lib.rt:189:9
 enum-known-pair : tie.Need-enum-known-pair
 enum-known-pair c = search needs
 
--- src/lib.rt:195:9
 join-requires : tie.Need-join-requires
 join-requires c κs = fit-sums (c .before .args .top) _ (c .before .args .pair) (c .before .pre)
 
--- src/lib.rt:195:9
 returns : tie.Need-returns
 unfolding kept
-returns c = λ room f. leaves-as _ _ _ _ _ _ _ _ _ refl (sym (c .join .ensures)) (pair-stopped _ room _ _ _ (c .before .match .keys2))
+returns c = λ room f.
+    leaves-as _ _ _ _ _ _ _ _ _ refl (sym (c .join .ensures)) (pair-stopped _ room _ _ _ (c .before .match .keys2))
 
--- src/lib.rt:197:16
 add-copy : tie.Need-add-copy
 add-copy c =
     let f = fit (c .before) in
     omega (arith, f .0, f .1)
 
--- src/lib.rt:197:5
 copy-requires : tie.Need-copy-requires
 copy-requires c κs =
     let f = fit (c .before) in
     (inl (omega arith), omega (arith, f .0, f .1), omega (arith, f .0, f .1))
 
--- src/lib.rt:183:1
 same-length : tie.Need-same-length
 same-length c = search needs
 
--- src/lib.rt:183:1
 returns-2 : tie.Need-returns-2
 unfolding kept
 returns-2 c = λ room f.
-    let p = c .before .before .before .before .pair .given in
+    let at-pair = c .before .before .before .before in
+    let p = at-pair .pair .given in
     let h = fit (c .before .before .before) in
-    let a = c .before .before .before .before .before .before .args in
+    let a = at-pair .before .before .args in
     let s : length (row (a .work .now) (a .top + p .0 .0) (p .0 .1 .0)) ≡ p .0 .1 .0 =
     length-row _ _ _ (omega (arith, h .0, h .1)) in
     let g = subst (FitPair _ room) (p .1) f in
     leaves-pair _ room _ _ _ _ _ _ _ _ _ (p .1)
-    (leaves-laid _ _ _ _ _ _ _ _ _ (c .before .copy .ensures) (omega (arith, s, h .0, h .1)) s (omega (arith, g .0)) (g .1) (λ e d. d))
+    (leaves-laid _ _ _ _ _ _ _ _ _ (c .before .copy .ensures) (omega (arith, s, h .0, h .1)) s (omega (arith, g .0))
+    (g .1) (λ e d. d))
 
 pub keep-spec : {M : Type 1} → statement M
 keep-spec =

@@ -14,50 +14,41 @@ use Rattle.stack.proofs.Leaving.{leaves-stopped, leaves-items, leaves-r
 use borrow.Author.Needs.{needs}
 use Rattle.stack.proofs.number.Statement.{statement}
 use Rattle.stack.proofs.number.Tie as tie
-use Rattle.stack.proofs.number.Reads as reads
-use Rattle.stack.proofs.number.Lts as lts
-use Rattle.stack.proofs.put.Reads as put-reads
-use Rattle.stack.proofs.raise.Reads as raise-reads
 
--- src/lib.rt:151:9
 enum-known-operand : tie.Need-enum-known-operand
 enum-known-operand c = search needs
 
--- src/lib.rt:156:9
 returns : tie.Need-returns
 unfolding counted
 returns c = leaves-stopped _ _ _ _ _ (c .match .keys2)
 
--- src/lib.rt:158:22
 cast-put : tie.Need-cast-put
 cast-put c =
     let a = c .before .before .before in
     let f = subst (Fit (a .args .top) (a .args .room)) (c .before .operand .given .1) (a .pre .1) in
     sfits-of (omega (arith, f .0, f .1, a .pre .0 .lent))
 
--- src/lib.rt:158:18
 put-requires : tie.Need-put-requires
 put-requires c κs = search needs
 
--- src/lib.rt:158:5
 raise-requires : tie.Need-raise-requires
 raise-requires c κs = search needs
 
--- src/lib.rt:145:1
 same-length : tie.Need-same-length
 same-length c = search needs
 
--- src/lib.rt:145:1
 returns-2 : tie.Need-returns-2
 unfolding counted
 returns-2 c =
-    let a = c .before .before .before .before .before .before .before in
-    let o = c .before .before .before .before .before .operand .given in
+    let at-operand = c .before .before .before .before .before in
+    let a = at-operand .before .before in
+    let o = at-operand .operand .given in
     let f = subst (Fit (a .args .top) (a .args .room)) (o .1) (a .pre .1) in
     leaves-items _ _ _ _ _ _ _ _ _ _ (o .1)
     (leaves-as _ _ _ _ _ _ _ _ _
     (ap (λ (z : ℤ). raised (o .0 .1 .0) (adding (a .args .room - a .args .top) (a .args .at) 0 (z ∷ [])))
-    (toZ-ofZ (cast-put (c .before .before .before .before)) ∙ ap pos (sym (length-row _ _ _ (omega (arith, f .0, f .1, a .pre .0 .lent))))))
+    (toZ-ofZ (cast-put (c .before .before .before .before))
+    ∙ ap pos (sym (length-row _ _ _ (omega (arith, f .0, f .1, a .pre .0 .lent))))))
     (sym (c .raise .ensures)) (leaves-raised _ _ _ _ _ _ _ _ (omega (arith, f .1)) (c .before .before .put .ensures)))
 
 pub number-spec : {M : Type 1} → statement M

@@ -6,30 +6,24 @@ use Rattle.stack.proofs.Leaving.{leaves-crowded, leaves-added, put-at}
 use borrow.Author.Needs.{needs}
 use Rattle.stack.proofs.put.Statement.{statement}
 use Rattle.stack.proofs.put.Tie as tie
-use Rattle.stack.proofs.put.Reads as reads
-use Rattle.stack.proofs.put.Lts as lts
 
--- src/lib.rt:85:9
 returns : tie.Need-returns
 returns c = leaves-crowded _ _ _ _ _ _ _ (c .before .pre) (omega arith)
 
--- src/lib.rt:87:5
 mul-cell : tie.Need-mul-cell
 mul-cell c = search needs
 
--- src/lib.rt:87:5
 slice-set-from-cell : tie.Need-slice-set-from-cell
 slice-set-from-cell c = search needs
 
--- src/lib.rt:80:1
 same-length : tie.Need-same-length
 same-length c = search needs
 
--- src/lib.rt:80:1
 returns-2 : tie.Need-returns-2
 returns-2 c =
     let a = c .before in
-    leaves-added _ _ _ _ _ _ _ (a .pre) _ 1 1 _ (omega (arith, a .pre .low)) (put-at _ _ _ _ (toZ-ofZ (a .fits .cell)) (omega (arith, a .pre .low, a .pre .lent))) refl refl (λ e h. h)
+    leaves-added _ _ _ _ _ _ _ (a .pre) _ 1 1 _ (omega (arith, a .pre .low))
+    (put-at _ _ _ _ (toZ-ofZ (a .fits .cell)) (omega (arith, a .pre .low, a .pre .lent))) refl refl (λ e h. h)
 
 pub put-spec : {M : Type 1} → statement M
 put-spec = tie.close (tie.spec returns mul-cell slice-set-from-cell same-length returns-2)

@@ -6,27 +6,19 @@ use Rattle.stack.specs.Stack.{raising}
 use borrow.Author.Needs.{needs}
 use Rattle.stack.proofs.raise.Statement.{statement}
 use Rattle.stack.proofs.raise.Tie as tie
-use Rattle.stack.proofs.raise.Reads as reads
-use Rattle.stack.proofs.raise.Lts as lts
-use Rattle.stack.proofs.larger.Reads as larger-reads
 
--- src/lib.rt:131:13
 enum-known-added : tie.Need-enum-known-added
 enum-known-added c = search needs
 
--- src/lib.rt:136:20
 larger-requires : tie.Need-larger-requires
 larger-requires c κs = search needs
 
--- src/lib.rt:139:21
 enum-known-added-2 : tie.Need-enum-known-added-2
 enum-known-added-2 c = search needs
 
--- src/lib.rt:140:23
 enum-known-added-3 : tie.Need-enum-known-added-3
 enum-known-added-3 c = search needs
 
--- src/lib.rt:126:1
 returns : tie.Need-returns
 unfolding raising
 returns c =
@@ -34,12 +26,10 @@ returns c =
     ap (λ (k : ℕ). Stood.Items (a .0) k (a .1 .1 .0)) (c .larger .ensures)
     ∙ sym (ap (raising _) (c .before .before .added .given .1))
 
--- src/lib.rt:126:1
 returns-2 : tie.Need-returns-2
 unfolding raising
 returns-2 c = sym (ap (raising _) (c .before .added2 .given .1))
 
--- src/lib.rt:126:1
 returns-3 : tie.Need-returns-3
 unfolding raising
 returns-3 c = sym (ap (raising _) (c .before .added3 .given .1))

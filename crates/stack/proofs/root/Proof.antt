@@ -10,47 +10,36 @@ use Rattle.stack.proofs.Leaving.{leaves-fails, leaves-gives, leaves-as,
 use borrow.Author.Needs.{needs}
 use Rattle.stack.proofs.root.Statement.{statement}
 use Rattle.stack.proofs.root.Tie as tie
-use Rattle.stack.proofs.root.Reads as reads
-use Rattle.stack.proofs.root.Lts as lts
-use Rattle.items.proofs.root.Reads as root-reads
-use Rattle.stack.proofs.put.Reads as put-reads
 
 -- the root's cell is one of 64 bits
 narrow : (c : tie.After-known-told) → SFits w64 (c .before .found .given .0 .0)
 narrow c = search needs
 
--- src/lib.rt:118:9
 root-requires : tie.Need-root-requires
 root-requires c κs = search needs
 
--- src/lib.rt:119:22
 enum-known-found : tie.Need-enum-known-found
 enum-known-found c = search needs
 
--- src/lib.rt:120:9
 enum-told : tie.Need-enum-told
 enum-told c = search needs
 
--- src/lib.rt:120:9
 returns : tie.Need-returns
 unfolding rooted tried worldOf
 returns c = leaves-fails _ _ _ _ _ _ _ (sym (c .before .before .root .ensures) ∙ ap tried (c .enum-told .given .1))
 
--- src/lib.rt:122:5
 put-requires : tie.Need-put-requires
 put-requires c κs = search needs
 
--- src/lib.rt:113:1
 same-length : tie.Need-same-length
 same-length c = search needs
 
--- src/lib.rt:113:1
 returns-2 : tie.Need-returns-2
 unfolding rooted tried worldOf
 returns-2 c =
-    let f = c .before .before .before .before .found .given in
+    let at-found = c .before .before .before .before in
     leaves-gives _ _ _ _ _ _ _ _ _ _
-    (sym (c .before .before .before .before .before .before .root .ensures) ∙ ap tried (f .1))
+    (sym (at-found .before .before .root .ensures) ∙ ap tried (at-found .found .given .1))
     (leaves-as _ _ _ _ _ _ _ _ _
     (adding-as _ _ _ _ _ (toZ-ofZ (narrow (c .before .before .before)))) refl (c .before .put .ensures))
 

@@ -1,4 +1,5 @@
--- `step` meets its contract: an operand that is refused is handed on; else the nodes that are reached, where the room suffices.
+-- `step` meets its contract: an operand that is refused is handed on; else the nodes that are reached, where the room
+-- suffices.
 use Prim.Native.Nat.{_+_, _≤_}
 use mathlib.Core.Path.{subst}
 use native.Mathlib.Omega.{arith}
@@ -9,144 +10,135 @@ use Rattle.stack.proofs.Reaching.{leaves-strange, leaves-short, leaves-
 use borrow.Author.Needs.{needs}
 use Rattle.stack.proofs.step.Statement.{statement}
 use Rattle.stack.proofs.step.Tie as tie
-use Rattle.stack.proofs.step.Reads as reads
-use Rattle.stack.proofs.step.Lts as lts
-use Rattle.stack.proofs.larger.Reads as larger-reads
-use Rattle.stack.proofs.reach.Reads as reach-reads
-use Rattle.steps.proofs.count.Reads as count-reads
-use Rattle.steps.proofs.write.Reads as write-reads
+
+-- the places on the way: the function's entry, the operand told, the step done
+abbrev start-of : tie.After-known-told → tie.Start
+start-of c = c .before .before .before .before .before .before
+
+abbrev told-at : tie.After-reach → tie.After-known-told
+told-at c = c .before .before .before .before .before
+
+abbrev reach-at : tie.After-enum-told → tie.After-reach
+reach-at c = c .before .before .before .before .before .before
 
 -- the items of the operand stand within the room
 fit :
     (c : tie.After-known-told) →
     (c .before .operand .given .0 .0 ≤ c .before .operand .given .0 .1 .0)
-    × (c .before .before .before .before .before .before .args .top + c .before .operand .given .0 .1 .0 ≤ c .before .before .before .before .before .before .args .room)
-fit c = subst (Fit _ _) (c .before .operand .given .1) (c .before .before .before .before .before .before .pre .1)
+    × (start-of c .args .top + c .before .operand .given .0 .1 .0 ≤ start-of c .args .room)
+fit c = subst (Fit _ _) (c .before .operand .given .1) (start-of c .pre .1)
 
--- src/lib.rt:353:9
 enum-known-operand : tie.Need-enum-known-operand
 enum-known-operand c = search needs
 
--- src/lib.rt:358:9
 returns : tie.Need-returns
 unfolding stepped
 returns c = leaves-stopped _ _ _ _ _ (c .match .keys2)
 
--- src/lib.rt:360:15
 add-end : tie.Need-add-end
 add-end c =
     let f = fit c in
-    omega (arith, f .0, f .1, c .before .before .before .before .before .before .pre .0 .lent)
+    omega (arith, f .0, f .1, start-of c .pre .0 .lent)
 
--- src/lib.rt:361:47
 mul-reach : tie.Need-mul-reach
 mul-reach c = search needs
 
--- src/lib.rt:361:47
 sub-reach : tie.Need-sub-reach
 sub-reach c = search needs
 
--- src/lib.rt:361:47
 part-reach-start : tie.Need-part-reach-start
 part-reach-start c = search needs
 
--- src/lib.rt:361:47
 part-reach-end : tie.Need-part-reach-end
 part-reach-end c =
     let f = fit (c .before) in
-    omega (arith, f .0, f .1, c .before .before .before .before .before .before .before .pre .0 .lent)
+    omega (arith, f .0, f .1, start-of (c .before) .pre .0 .lent)
 
--- src/lib.rt:361:9
 reach-requires : tie.Need-reach-requires
 reach-requires c κs = search needs
 
 enum-told : tie.Need-enum-told
 enum-told c = search needs
 
--- src/lib.rt:363:9
 enum-told-2 : tie.Need-enum-told-2
 enum-told-2 c = search needs
 
--- src/lib.rt:363:9
 same-length : tie.Need-same-length
 same-length c = search needs
 
--- src/lib.rt:363:9
 same-length-2 : tie.Need-same-length-2
 same-length-2 c = search needs
 
--- src/lib.rt:363:9
 same-length-3 : tie.Need-same-length-3
 same-length-3 c = search needs
 
--- src/lib.rt:363:9
 returns-2 : tie.Need-returns-2
 returns-2 c =
-    let a = c .before .before .before .before .before .before .before .before .before .before .before .before .before .before .before .before .before in
-    let o = c .before .before .before .before .before .before .before .before .before .before .before .before .operand .given in
-    leaves-strange _ _ _ _ _ _ _ _ _ _ _ _ (o .1) (a .pre .0) (a .pre .1) _ _ (c .before .before .before .before .before .before .reach .ensures) (c .enum-told2 .given .1)
+    let reached = c .before .before .before .before .before .before in
+    let told = told-at reached in
+    let a = start-of told in
+    let o = told .before .operand .given in
+    leaves-strange _ _ _ _ _ _ _ _ _ _ _ _ (o .1) (a .pre .0) (a .pre .1) _ _ (reached .reach .ensures)
+    (c .enum-told2 .given .1)
 
--- src/lib.rt:365:9
 count-requires : tie.Need-count-requires
 count-requires c κs = search needs
 
--- src/lib.rt:366:8
 sub-if1 : tie.Need-sub-if1
 sub-if1 c =
-    let f = fit (c .before .before .before .before .before .before .before .before .before .before .before .before .before) in
+    let f = fit (told-at (reach-at (c .before .before))) in
     omega (arith, f .0, f .1)
 
--- src/lib.rt:367:9
 same-length-4 : tie.Need-same-length-4
 same-length-4 c = search needs
 
--- src/lib.rt:367:9
 same-length-5 : tie.Need-same-length-5
 same-length-5 c = search needs
 
--- src/lib.rt:367:9
 same-length-6 : tie.Need-same-length-6
 same-length-6 c = search needs
 
--- src/lib.rt:367:9
 returns-3 : tie.Need-returns-3
 returns-3 c =
-    let a = c .before .before .before .before .before .before .before .before .before .before .before .before .before .before .before .before .before .before .before .before in
-    let o = c .before .before .before .before .before .before .before .before .before .before .before .before .before .before .before .operand .given in
-    leaves-short _ _ _ _ _ _ _ _ _ _ _ _ (o .1) (a .pre .0) (a .pre .1) _ _ (c .before .before .before .before .before .before .before .before .before .reach .ensures) _ (c .before .before .before .enum-told .given .1)
+    let all = c .before .before .before in
+    let reached = reach-at all in
+    let told = told-at reached in
+    let a = start-of told in
+    let o = told .before .operand .given in
+    leaves-short _ _ _ _ _ _ _ _ _ _ _ _ (o .1) (a .pre .0) (a .pre .1) _ _ (reached .reach .ensures) _
+    (all .enum-told .given .1)
     (c .before .count .ensures) (c .if1 .taken)
 
--- src/lib.rt:369:5
 write-requires : tie.Need-write-requires
 write-requires c κs = search needs
 
--- src/lib.rt:372:30
 add-larger : tie.Need-add-larger
 add-larger c = search needs
 
--- src/lib.rt:372:16
 larger-requires : tie.Need-larger-requires
 larger-requires c κs = search needs
 
--- src/lib.rt:334:1
 same-length-7 : tie.Need-same-length-7
 same-length-7 c = search needs
 
--- src/lib.rt:334:1
 same-length-8 : tie.Need-same-length-8
 same-length-8 c = search needs
 
--- src/lib.rt:334:1
 same-length-9 : tie.Need-same-length-9
 same-length-9 c = search needs
 
--- src/lib.rt:334:1
 returns-4 : tie.Need-returns-4
 returns-4 c =
-    let a = c .before .before .before .before .before .before .before .before .before .before .before .before .before .before .before .before .before .before .before .before .before .before .before .before .before in
-    let o = c .before .before .before .before .before .before .before .before .before .before .before .before .before .before .before .before .before .before .before .before .operand .given in
-    leaves-reached _ _ _ _ _ _ _ _ _ _ _ _ (o .1) (a .pre .0) (a .pre .1) _ _ (c .before .before .before .before .before .before .before .before .before .before .before .before .before .before .reach .ensures) _ _ _ (c .before .before .before .before .before .before .before .before .enum-told .given .1)
-    (c .before .before .before .before .before .before .count .ensures) (c .before .before .before .before .before .if1 .left) (c .before .before .write .ensures .1) (c .larger .ensures)
+    let fits = c .before .before .before .before .before in
+    let counted = fits .before in
+    let all = counted .before .before in
+    let reached = reach-at all in
+    let told = told-at reached in
+    let a = start-of told in
+    let o = told .before .operand .given in
+    leaves-reached _ _ _ _ _ _ _ _ _ _ _ _ (o .1) (a .pre .0) (a .pre .1) _ _ (reached .reach .ensures) _ _ _
+    (all .enum-told .given .1) (counted .count .ensures) (fits .if1 .left) (c .before .before .write .ensures .1)
+    (c .larger .ensures)
 
 pub step-spec : {M : Type 1} → statement M
 step-spec =

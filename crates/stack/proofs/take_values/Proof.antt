@@ -14,14 +14,11 @@ use Rattle.meaning.specs.Catalogue.{catalogueOf}
 use Rattle.meaning.specs.World as World
 use Rattle.meaning.specs.World.{worldOf}
 use Rattle.items.specs.Answers.{tried}
-use Rattle.stack.proofs.Moves.{getD-past}
+use Rattle.lent.proofs.Moves.{getD-past}
 use Rattle.stack.proofs.Valuing.{Taking, taking-none, taking-more, taking-stop, taking-all}
 use borrow.Author.Needs.{needs}
 use Rattle.stack.proofs.take_values.Statement.{statement}
 use Rattle.stack.proofs.take_values.Tie as tie
-use Rattle.stack.proofs.take_values.Reads as reads
-use Rattle.stack.proofs.take_values.Lts as lts
-use Rattle.items.proofs.value.Reads as value-reads
 
 abbrev Inv-loop : tie.InvT-loop
 Inv-loop doc rows work₀ top n i₀ work i =
@@ -38,95 +35,88 @@ narrow c = search needs
 -- the cell at work is the next item
 item :
     (c : tie.In-loop Inv-loop μ-loop) →
-    getD (row (c .before .before .before .args .work .now) (c .before .before .before .args .top) (c .before .before .before .args .n)) (c .before .loop .i) (pos 0)
-    ≡ getD (c .before .loop .work) (c .before .before .before .args .top + c .before .loop .i) (pos 0)
+    let a = c .before .before .before in
+    let l = c .before .loop in
+    getD (row (a .args .work .now) (a .args .top) (a .args .n)) (l .i) (pos 0)
+    ≡ getD (l .work) (a .args .top + l .i) (pos 0)
 item c =
     let a = c .before .before .before in
     let l = c .before .loop in
     let v = l .inv .2 in
     getD-row (a .args .work .now) (a .args .top) (a .args .n) (l .i) (pos 0) (omega arith)
-    ∙ sym (getD-past (a .args .work .now) (a .args .top) (v .0) (a .args .top + l .i) (pos 0) (omega arith) (omega (arith, v .1 .long)))
+    ∙ sym (getD-past (a .args .work .now) (a .args .top) (v .0) (a .args .top + l .i) (pos 0) (omega arith)
+    (omega (arith, v .1 .long)))
     ∙ ap (λ (w : List ℤ). getD w (a .args .top + l .i) (pos 0)) (sym (v .2))
 
 -- its value
 value-is :
     (c : tie.After-value Inv-loop μ-loop) →
+    let at-loop = c .before .before .before in
+    let a = at-loop .before .before .args in
     tried (c .value .result)
-    ≡ World.value (catalogueOf (c .before .before .before .before .before .args .doc .now) (c .before .before .before .before .before .args .rows))
-    (getD (c .before .before .before .loop .work) (c .before .before .before .before .before .args .top + c .before .before .before .loop .i) (pos 0))
+    ≡ World.value (catalogueOf (a .doc .now) (a .rows)) (getD (at-loop .loop .work) (a .top + at-loop .loop .i) (pos 0))
 value-is c = c .value .ensures ∙ ap (World.value _) (toZ-ofZ (record { sfits = c .before .value-arg .given }))
 
--- src/lib.rt:268:5
 loop-holds : tie.Need-loop-holds Inv-loop μ-loop
 loop-holds c = (omega arith, refl, ([], taking-none _ _, sym (laid-nothing _ _)))
 
--- src/lib.rt:269:50
 add-value : tie.Need-add-value Inv-loop μ-loop
 add-value c = search needs
 
--- src/lib.rt:269:45
 mul-value : tie.Need-mul-value Inv-loop μ-loop
 mul-value c = search needs
 
--- src/lib.rt:269:45
 slice-copy-out-value : tie.Need-slice-copy-out-value Inv-loop μ-loop
 slice-copy-out-value c = search needs
 
--- src/lib.rt:269:13
 value-requires : tie.Need-value-requires Inv-loop μ-loop
 value-requires c κs = search needs
 
--- src/lib.rt:270:26
 enum-known-value : tie.Need-enum-known-value Inv-loop μ-loop
 enum-known-value c = search needs
 
--- src/lib.rt:271:13
 enum-told : tie.Need-enum-told Inv-loop μ-loop
 enum-told c = search needs
 
--- src/lib.rt:271:13
 same-length : tie.Need-same-length Inv-loop μ-loop
 same-length c = c .before .before .before .before .before .loop .inv .1
 
--- src/lib.rt:271:13
 returns : tie.Need-returns Inv-loop μ-loop
 unfolding worldOf tried
 returns c =
-    let a = c .before .before .before .before .before .before .before in
-    let l = c .before .before .before .before .before .loop in
+    let at-loop = c .before .before .before .before .before in
+    let a = at-loop .before .before in
+    let l = at-loop .loop in
     let v = l .inv .2 in
     let s = length-row (a .args .work .now) (a .args .top) (a .args .n) (omega arith) in (
       taking-stop _ _ _ _ (v .1) _ (pos 0) (omega arith) (item (c .before .before .before .before))
           (sym (value-is (c .before .before)) ∙ ap tried (c .enum-told .given .1)),
-      ap (take (a .args .top)) (v .2) ∙ take-laid (a .args .work .now) (a .args .top) (v .0) (a .args .top) (omega arith) (omega arith),
+      ap (take (a .args .top)) (v .2)
+          ∙ take-laid (a .args .work .now) (a .args .top) (v .0) (a .args .top) (omega arith) (omega arith),
     )
 
--- src/lib.rt:273:14
 add-cell : tie.Need-add-cell Inv-loop μ-loop
 add-cell c = search needs
 
--- src/lib.rt:273:9
 mul-cell : tie.Need-mul-cell Inv-loop μ-loop
 mul-cell c = search needs
 
--- src/lib.rt:273:9
 slice-set-from-cell : tie.Need-slice-set-from-cell Inv-loop μ-loop
 slice-set-from-cell c = search needs
 
--- src/lib.rt:274:9
 add-i : tie.Need-add-i Inv-loop μ-loop
 add-i c = search needs
 
--- src/lib.rt:268:5
 loop-less : tie.Need-loop-less Inv-loop μ-loop
 loop-less c = search needs
 
--- src/lib.rt:268:5
 loop-again : tie.Need-loop-again Inv-loop μ-loop
 unfolding worldOf tried
 loop-again c =
-    let a = c .before .before .before .before .before .before .before .before in
-    let l = c .before .before .before .before .before .before .loop in
+    let told = c .before .before .before in
+    let at-loop = told .before .before .before in
+    let a = at-loop .before .before in
+    let l = at-loop .loop in
     let v = l .inv .2 in
     let s = length-row (a .args .work .now) (a .args .top) (a .args .n) (omega arith) in
     let y = c .before .value2 .given in (
@@ -137,15 +127,14 @@ loop-again c =
         taking-more _ _ _ _ (v .1) _ (pos 0) (omega arith) (item (c .before .before .before .before .before)) (y .0 .0)
             (sym (value-is (c .before .before .before)) ∙ ap tried (y .1)),
         ap (set (l .work) (a .args .top + l .i)) (toZ-ofZ (narrow c))
-            ∙ set-more (a .args .work .now) (l .work) (a .args .top) (l .i) (v .0) (y .0 .0) (v .2) (v .1 .long) (omega arith),
+            ∙ set-more (a .args .work .now) (l .work) (a .args .top) (l .i) (v .0) (y .0 .0) (v .2) (v .1 .long)
+            (omega arith),
       ),
     )
 
--- src/lib.rt:263:1
 same-length-2 : tie.Need-same-length-2 Inv-loop μ-loop
 same-length-2 c = c .before .loop .inv .1
 
--- src/lib.rt:263:1
 returns-2 : tie.Need-returns-2 Inv-loop μ-loop
 returns-2 c =
     let a = c .before .before .before in

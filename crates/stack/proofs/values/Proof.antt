@@ -7,36 +7,29 @@ use Rattle.stack.proofs.Leaving.{leaves-stopped, leaves-items, leaves-l
 use borrow.Author.Needs.{needs}
 use Rattle.stack.proofs.values.Statement.{statement}
 use Rattle.stack.proofs.values.Tie as tie
-use Rattle.stack.proofs.values.Reads as reads
-use Rattle.stack.proofs.values.Lts as lts
-use Rattle.stack.proofs.take_values.Reads as take-values-reads
 
--- src/lib.rt:287:9
 enum-known-operand : tie.Need-enum-known-operand
 enum-known-operand c = search needs
 
--- src/lib.rt:292:9
 returns : tie.Need-returns
 unfolding valued
 returns c = λ room f. leaves-stopped _ room _ _ _ (c .match .keys2)
 
--- src/lib.rt:294:8
 take-values-requires : tie.Need-take-values-requires
 take-values-requires c κs =
     let a = c .before .before .before .before .before in
     let f = subst (Fit (a .args .top) _) (c .before .before .operand .given .1) (a .pre .1) in
     (a .pre .0, omega (arith, f .0, f .1))
 
--- src/lib.rt:280:1
 same-length : tie.Need-same-length
 same-length c = search needs
 
--- src/lib.rt:280:1
 returns-2 : tie.Need-returns-2
 unfolding valued
 returns-2 c = λ room f.
-    let a = c .before .before .before .before .before .before .before .before in
-    let o = c .before .before .before .before .before .operand .given in
+    let at-operand = c .before .before .before .before .before in
+    let a = at-operand .before .before .before in
+    let o = at-operand .operand .given in
     let h = subst (Fit (a .args .top) _) (o .1) (a .pre .1) in
     let g = subst (Fit (a .args .top) room) (o .1) f in
     let v = subst (Valued _ (a .args .top) (o .0 .0) _ _) (c .if1 .taken) (c .before .before .take-values .ensures) in
@@ -44,16 +37,15 @@ returns-2 c = λ room f.
     (leaves-gives _ room _ _ _ _ _ _ _ (v .0) (v .1)
     (leaves-laid _ room _ _ _ _ _ _ (v .0) (v .3) (omega (arith, v .2, h .0, h .1)) (v .2) (g .0) (g .1) (λ e d. d)))
 
--- src/lib.rt:280:1
 same-length-2 : tie.Need-same-length-2
 same-length-2 c = search needs
 
--- src/lib.rt:280:1
 returns-3 : tie.Need-returns-3
 unfolding valued
 returns-3 c = λ room f.
-    let a = c .before .before .before .before .before .before .before .before in
-    let o = c .before .before .before .before .before .operand .given in
+    let at-operand = c .before .before .before .before .before in
+    let a = at-operand .before .before .before in
+    let o = at-operand .operand .given in
     let v = subst (Valued _ (a .args .top) (o .0 .0) _ _) (c .if1 .left) (c .before .before .take-values .ensures) in
     leaves-items _ room _ _ _ _ _ _ _ _ (o .1) (leaves-fails-kept _ room _ _ _ _ _ _ (v .1) (v .0))
 

@@ -5,8 +5,6 @@ use Rattle.translator.specs.Answers.{answered}
 use Rattle.translator.proofs.Concluding.{hands-none, hands-is}
 use Rattle.translator.proofs.handed_up.Statement.{statement}
 use Rattle.translator.proofs.handed_up.Tie as tie
-use Rattle.translator.proofs.handed_up.Reads as reads
-use Rattle.translator.proofs.handed_up.Lts as lts
 
 enum-told : tie.Need-enum-told
 enum-told c = search needs

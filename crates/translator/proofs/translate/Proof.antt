@@ -3,15 +3,10 @@ use borrow.Author.Needs.{needs}
 use mathlib.Core.Path.{refl}
 use lib.ListN.{length}
 use Rattle.queries.proofs.Callers.{check-reads, check-refuses}
-use Rattle.translator.proofs.Concluding.{refusal-answer, refusal-left, call-refused, call-whole, call-concludes}
+use Rattle.translator.proofs.Concluding.{refusal-answer, refusal-left, call-refused, call-whole}
+use Rattle.translator.proofs.Concluding.{call-concludes}
 use Rattle.translator.proofs.translate.Statement.{statement}
 use Rattle.translator.proofs.translate.Tie as tie
-use Rattle.translator.proofs.translate.Reads as reads
-use Rattle.translator.proofs.translate.Lts as lts
-use Rattle.queries.proofs.check.Reads as check-reads
-use Rattle.translator.proofs.handed_up.Reads as handed-up-reads
-use Rattle.translator.proofs.whole.Reads as whole-reads
-use Rattle.writing.proofs.clear.Reads as clear-reads
 
 check-requires : tie.Need-check-requires
 check-requires c κs = search needs

@@ -8,12 +8,6 @@ use Rattle.translator.proofs.Concluding.{whole-asked, whole-room, whole
 use Rattle.translator.proofs.Concluding.{fits-answer, fits-left}
 use Rattle.translator.proofs.whole.Statement.{statement}
 use Rattle.translator.proofs.whole.Tie as tie
-use Rattle.translator.proofs.whole.Reads as reads
-use Rattle.translator.proofs.whole.Lts as lts
-use Rattle.rules.proofs.add.Reads as add-reads
-use Rattle.rules.proofs.last.Reads as last-reads
-use Rattle.translator.proofs.expression.Reads as expression-reads
-use Rattle.writing.proofs.clear.Reads as clear-reads
 
 add-requires : tie.Need-add-requires
 add-requires c κs = record { few = lit≤ tt; short = lit≤ tt }
@@ -43,14 +37,15 @@ returns : tie.Need-returns
 unfolding operatorOf answered
 returns c =
     λ q read.
-    let last = c .before .before .before .before .before .before .before in
+    let test = c .before .before .before .before in
+    let last = test .before .before .before in
     let body = last .before .before .before .before .before in
     let first = body .before .before .before .before in
     let start = first .before .before .before .before in
     let wrote =
     whole-wrote (start .args .query .now) q read (first .add .ensures) (body .expression .ensures)
     (last .last .ensures) in
-    let e = many q _ _ _ wrote (c .before .before .before .before .if1 .taken) in
+    let e = many q _ _ _ wrote (test .if1 .taken) in
     owes-refusal q _ _ _ wrote 2 _ _ e refl (c .before .before .clear .ensures)
 
 clear-requires-2 : tie.Need-clear-requires-2
@@ -63,14 +58,14 @@ returns-2 : tie.Need-returns-2
 unfolding operatorOf answered
 returns-2 c =
     λ q read.
-    let last = c .before .before .before .before .before .before .before .before in
+    let tests = c .before .before .before .before in
+    let last = tests .before .before .before .before in
     let body = last .before .before .before .before .before in
     let first = body .before .before .before .before in
     let start = first .before .before .before .before in
     let wrote =
     whole-wrote (start .args .query .now) q read (first .add .ensures) (body .expression .ensures)
     (last .last .ensures) in
-    let tests = c .before .before .before .before in
     let e = long q _ _ _ wrote (tests .before .if1 .left) (tests .if2 .taken) in
     owes-refusal q _ _ _ wrote 8 _ _ e refl (c .before .before .clear2 .ensures)
 
@@ -84,14 +79,14 @@ returns-3 : tie.Need-returns-3
 unfolding operatorOf answered
 returns-3 c =
     λ q read.
-    let last = c .before .before .before .before .before .before .before .before in
+    let tests = c .before .before .before .before in
+    let last = tests .before .before .before .before in
     let body = last .before .before .before .before .before in
     let first = body .before .before .before .before in
     let start = first .before .before .before .before in
     let wrote =
     whole-wrote (start .args .query .now) q read (first .add .ensures) (body .expression .ensures)
-    (last .last .ensures) in
-    let tests = c .before .before .before .before in (
+    (last .last .ensures) in (
       fits-answer q _ _ _ wrote (tests .before .if1 .left) (tests .if2 .left),
       fits-left q _ _ _ wrote (tests .before .if1 .left) (tests .if2 .left) _ (c .before .before .clear3 .ensures),
     )

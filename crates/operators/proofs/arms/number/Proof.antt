@@ -12,8 +12,10 @@ keys-requires : tie.Need-keys-requires
 keys-requires c κs = search needs
 
 number-requires : tie.Need-number-requires
-number-requires c κs = let start = c .before .before .before .before .before .before .before .before .before in
-    rw (c .before .before .before .before .stand .ensures) (
+number-requires c κs =
+    let at-stand = c .before .before .before .before in
+    let start = at-stand .before .before .before .before .before in
+    rw (at-stand .stand .ensures) (
       (start .pre .0 .0 .inside, omega arith, omega arith, omega arith),
       (keys-suit _ _ _ _ (c .before .before .before .keys .ensures) (start .pre .1 .1 .0), (omega arith, omega arith)),
     )
@@ -29,10 +31,10 @@ same-length-3 c = search needs
 
 returns : tie.Need-returns
 returns c =
-    keys-owe (c .before .before .before .before .before .before .before .before .before .keys .result) _ _ _ _ _ _ _ _ _
-    (c .before .before .before .before .before .before .before .before .before .keys .ensures)
-    (rw (c .before .before .before .before .before .before .before .before .before .before .stand .ensures) at
-    (c .before .before .before .before .before .number .ensures))
+    let numbered = c .before .before .before .before .before in
+    let at-keys = numbered .before .before .before .before in
+    keys-owe (at-keys .keys .result) _ _ _ _ _ _ _ _ _ (at-keys .keys .ensures)
+    (rw (at-keys .before .stand .ensures) at (numbered .number .ensures))
 
 pub number-spec : {M : Type 1} → statement M
 number-spec =

@@ -9,8 +9,9 @@ stand-requires c κs = search needs
 
 steps-requires : tie.Need-steps-requires
 steps-requires c κs =
-    let start = c .before .before .before .before .before .before .before .before in
-    rw (c .before .before .before .stand .ensures) (
+    let at-stand = c .before .before .before in
+    let start = at-stand .before .before .before .before .before in
+    rw (at-stand .stand .ensures) (
       (
         start .pre .0 .0 .inside,
         omega arith,
@@ -30,8 +31,9 @@ same-length-3 : tie.Need-same-length-3
 same-length-3 c = search needs
 
 returns : tie.Need-returns
-returns c = rw (c .before .before .before .before .before .before .before .before .before .stand .ensures) at
-    (c .before .before .before .before .before .steps .ensures)
+returns c =
+    let stepped = c .before .before .before .before .before in
+    rw (stepped .before .before .before .before .stand .ensures) at (stepped .steps .ensures)
 
 pub steps-spec : {M : Type 1} → statement M
 steps-spec =

@@ -1,0 +1,3 @@
+pub mod Going
+pub mod Turning
+pub mod Leaving

@@ -1,0 +1,220 @@
+-- `for_each` meets its contract: a, the variable, the lifted variables, b, then the rule's last operators.
+use Prim.Native.Nat.{ℕ}
+use Prim.Native.Nat.{_+_}
+use mathlib.Core.Path.{refl}
+use native.Mathlib.Omega.{arith}
+use lib.Dec.{lit≤}
+use Rattle.meaning.specs.Query.{QF}
+use Rattle.queries.specs.Parse.{parse}
+use Rattle.translating.proofs.Rooms.{room-less, first-asked, first-room, head-room, body-asked, body-room}
+use Rattle.translating.proofs.Composing.{for-made, set-eight}
+use borrow.Author.Needs.{needs}
+use Rattle.translating.proofs.expression.Reads as expression
+use Rattle.translating.proofs.for_each.Reads as for-each
+use Rattle.translating.proofs as parts
+use parts.+apply+branch+choose+count+expression+for_each+let_in+sequence+step+values as cycle
+use cycle.Lts-for_each as for-each-lts
+use Rattle.rules.proofs.for_head.Reads as for-head-reads
+use Rattle.rules.proofs.for_tail.Reads as for-tail-reads
+use Rattle.queries.proofs.free.Reads as free-reads
+use Rattle.rules.proofs.hold.Reads as hold-reads
+use Rattle.rules.proofs.lift.Reads as lift-reads
+use Rattle.rules.proofs.without.Reads as without-reads
+use cycle.Proof.Measures.{for-each-at, expression-below}
+
+abbrev pub callees : ℕ → for-each-lts.Claims
+callees t = (
+  expression-below t,
+  expression.Post,
+  for-head-reads.Asked,
+  for-head-reads.Learnt,
+  free-reads.Asked,
+  free-reads.Learnt,
+  without-reads.Asked,
+  without-reads.Learnt,
+  lift-reads.Asked,
+  lift-reads.Learnt,
+  hold-reads.Asked,
+  hold-reads.Learnt,
+  for-tail-reads.Asked,
+  for-tail-reads.Learnt,
+)
+
+module _ (t : ℕ) where
+  -- the places on the way: the head written, the variables lifted
+  abbrev head-of :
+      for-each-lts.After-lift (callees t) (for-each-at t) for-each.Post →
+      for-each-lts.After-for-head (callees t) (for-each-at t) for-each.Post
+  head-of c = c .before .before .before .before .before .before
+
+  abbrev lift-of :
+      for-each-lts.After-expression2 (callees t) (for-each-at t) for-each.Post →
+      for-each-lts.After-lift (callees t) (for-each-at t) for-each.Post
+  lift-of c = c .before .before .before .before .before .before .before
+
+  pub expression-requires : for-each-lts.Need-expression-requires (callees t) (for-each-at t) for-each.Post
+  expression-requires c κs =
+      let start = c .before .before .before in
+      (omega (arith, start .pre .0), first-asked (QF 0 (start .args .v)) (λ a b. refl) (start .pre .1))
+
+  pub for-head-requires : for-each-lts.Need-for-head-requires (callees t) (for-each-at t) for-each.Post
+  for-head-requires c κs =
+      let first = c .before .before .before .before in
+      let start = first .before .before .before .before in
+      let a = start .args in
+      let rd = parse (a .depth) (a .query .now) in
+      room-less 5 (first-room (QF 0 (a .v)) (λ a b. refl) rd (a .at) (a .pen) (start .pre .1)
+      (first .expression .ensures)) (omega arith)
+
+  pub free-requires : for-each-lts.Need-free-requires (callees t) (for-each-at t) for-each.Post
+  free-requires c κs = search needs
+
+  pub without-requires : for-each-lts.Need-without-requires (callees t) (for-each-at t) for-each.Post
+  without-requires c κs = search needs
+
+  pub add-lift : for-each-lts.Need-add-lift (callees t) (for-each-at t) for-each.Post
+  add-lift c =
+      let head = c .before .before .before .before .before in
+      let first = head .before .before .before .before .before in
+      let start = first .before .before .before .before in
+      let a = start .args in
+      let rd = parse (a .depth) (a .query .now) in
+      omega (
+        arith,
+        first-room (QF 0 (a .v)) (λ a b. refl) rd (a .at) (a .pen) (start .pre .1)
+            (first .expression .ensures),
+      )
+
+  pub lift-requires : for-each-lts.Need-lift-requires (callees t) (for-each-at t) for-each.Post
+  lift-requires c κs =
+      let head = c .before .before .before .before .before in
+      let first = head .before .before .before .before .before in
+      let start = first .before .before .before .before in
+      let a = start .args in
+      let rd = parse (a .depth) (a .query .now) in
+      room-less 16
+      (head-room (QF 0 (a .v)) (λ a b. refl) rd (a .at) (a .pen) (start .pre .1) (first .expression .ensures)
+      (first .expression .result .pen .operators)
+      (first .expression .result .table) (head .for-head .ensures))
+      (omega arith)
+
+  pub add-hold : for-each-lts.Need-add-hold (callees t) (for-each-at t) for-each.Post
+  add-hold c =
+      let lift = c .before .before .before in
+      let head = head-of lift in
+      let first = head .before .before .before .before .before in
+      let start = first .before .before .before .before in
+      let a = start .args in
+      let rd = parse (a .depth) (a .query .now) in
+      omega (
+        arith,
+        first-room (QF 0 (a .v)) (λ a b. refl) rd (a .at) (a .pen) (start .pre .1)
+            (first .expression .ensures),
+      )
+
+  pub hold-requires : for-each-lts.Need-hold-requires (callees t) (for-each-at t) for-each.Post
+  hold-requires c κs = search needs
+
+  pub add-expression : for-each-lts.Need-add-expression (callees t) (for-each-at t) for-each.Post
+  add-expression c =
+      let lift = c .before .before .before .before .before in
+      let head = head-of lift in
+      let first = head .before .before .before .before .before in
+      let start = first .before .before .before .before in
+      let a = start .args in
+      let rd = parse (a .depth) (a .query .now) in
+      omega (
+        arith,
+        first-room (QF 0 (a .v)) (λ a b. refl) rd (a .at) (a .pen) (start .pre .1)
+            (first .expression .ensures),
+      )
+
+  pub expression-requires-2 : for-each-lts.Need-expression-requires-2 (callees t) (for-each-at t) for-each.Post
+  expression-requires-2 c κs =
+      let lift = c .before .before .before .before .before .before in
+      let others = lift .before .before in
+      let head = others .before .before .before .before in
+      let first = head .before .before .before .before .before in
+      let start = first .before .before .before .before in
+      let a = start .args in
+      let rd = parse (a .depth) (a .query .now) in (
+        omega (arith, start .pre .0),
+        body-asked (QF 0 (a .v)) (λ a b. refl) rd (a .at) (a .pen) (start .pre .1) (first .expression .ensures)
+            (first .expression .result .pen .operators)
+            (first .expression .result .table) (head .for-head .ensures)
+            (others .without .result) (lift .lift .ensures),
+      )
+
+  pub add-for-tail : for-each-lts.Need-add-for-tail (callees t) (for-each-at t) for-each.Post
+  add-for-tail c =
+      let body = c .before .before .before .before in
+      let lift = lift-of body in
+      let head = head-of lift in
+      let first = head .before .before .before .before .before in
+      let start = first .before .before .before .before in
+      let a = start .args in
+      let rd = parse (a .depth) (a .query .now) in
+      omega (
+        arith,
+        first-room (QF 0 (a .v)) (λ a b. refl) rd (a .at) (a .pen) (start .pre .1)
+            (first .expression .ensures),
+      )
+
+  pub for-tail-requires : for-each-lts.Need-for-tail-requires (callees t) (for-each-at t) for-each.Post
+  for-tail-requires c κs =
+      let body = c .before .before .before .before in
+      let lift = lift-of body in
+      let others = lift .before .before in
+      let head = others .before .before .before .before in
+      let first = head .before .before .before .before .before in
+      let start = first .before .before .before .before in
+      let a = start .args in
+      let rd = parse (a .depth) (a .query .now) in
+      room-less 3
+      (body-room (QF 0 (a .v)) (λ a b. refl) rd (a .at) (a .pen) (start .pre .1) (first .expression .ensures)
+      (first .expression .result .pen .operators)
+      (first .expression .result .table) (head .for-head .ensures)
+      (others .without .result) (lift .lift .ensures) (body .expression2 .ensures))
+      (lit≤ tt)
+
+  pub same-length : for-each-lts.Need-same-length (callees t) (for-each-at t) for-each.Post
+  same-length c =
+      let tail = c .before .before in
+      let body = tail .before .before .before .before .before in
+      let lift = lift-of body in
+      let head = head-of lift in
+      let first = head .before .before .before .before .before in
+      omega (
+        arith,
+        first .expression .kept,
+        head .for-head .kept,
+        lift .lift .kept,
+        body .expression2 .kept,
+        tail .for-tail
+            .kept,
+      )
+
+  pub returns : for-each-lts.Need-returns (callees t) (for-each-at t) for-each.Post
+  returns c =
+      let tail = c .before .before in
+      let body = tail .before .before .before .before .before in
+      let bound = body .before .before .before in
+      let lift = bound .before .before .before .before in
+      let others = lift .before .before in
+      let flags = others .before in
+      let head = flags .before .before .before in
+      let first = head .before .before .before .before .before in
+      let start = first .before .before .before .before in
+      let a = start .args in
+      let rd = parse (a .depth) (a .query .now) in
+      let m = first .expression .result .pen .operators in
+      record {
+        made = λ o e h.
+            for-made rd o (first .expression .ensures) e h (a .v) (omega (arith, start .good .1 .1 .1 .1 .0))
+            (flags .free .result)
+            (omega (arith, flags .free .ok)) (flags .free .ensures) (head .for-head .ensures)
+            (rw (others .without .ensures) at (lift .lift .ensures))
+            (set-eight (lift .lift .result .tables) (bound .hold .result) (a .v) (m + 2) (bound .hold .ensures)
+            (omega (arith, bound .hold .ok)))
+            (rw (bound .hold .ensures) at (body .expression2 .ensures)) (tail .for-tail .ensures);
+      }

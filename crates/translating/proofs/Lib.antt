@@ -1,0 +1,4 @@
+pub mod Rooms
+pub mod Splitting
+pub mod Composing
+pub mod Dispatching

@@ -1,0 +1,5 @@
+pub mod Scoping
+pub mod Working
+pub mod Pairing
+pub mod Turning
+pub mod Choosing
