@@ -1,13 +1,14 @@
--- `groups::steps` meets its contract: it fails where some cell of column 1 is no node, and lays the rows where each is one.
+-- `groups::steps` meets its contract: it fails where some cell of column 1 is no node, and lays the rows where each
+-- is one.
 use mathlib.Core.Path.{refl, sym, _∙_}
 use native.Mathlib.Omega.{arith}
 use borrow.Author.Tests.{not-true, not-false}
 use Rattle.meaning.specs.Catalogue.{catalogueOf}
 use Rattle.tables.specs.Layout.{tableAt, Inside, Owes}
 use Rattle.tables.proofs.Promise.{owes-is}
-use Rattle.groups.specs.Gathered.{Suits, columnOf}
+use Rattle.groups.specs.Gathered.{Asks, columnOf}
 use Rattle.groups.proofs.Turns.{settled-yes, failed-no}
-use Rattle.members.proofs.Nodes.{rows-of}
+use Rattle.stepping.proofs.Nodes.{rows-of}
 use Rattle.groups.proofs.Gathering.{steps-is, steps-succeed}
 use borrow.Author.Needs.{needs}
 use Rattle.groups.proofs.steps.Statement.{statement}
@@ -39,7 +40,7 @@ unfolding Inside
 climbs-requires c κs = (omega arith, omega arith)
 
 each-group-requires : tie.Need-each-group-requires
-unfolding Suits columnOf
+unfolding Asks columnOf
 each-group-requires c κs =
     let climbing = c .before .before .before in
     let else = climbing .before .before in
@@ -51,7 +52,8 @@ each-group-requires c κs =
         (
           climbing .climbs .ensures,
           settled-yes _
-              (steps-succeed d (start .args .axis) (start .args .test) (tableAt (start .args .work .now) (start .args .s))
+              (steps-succeed d (start .args .axis) (start .args .test)
+              (tableAt (start .args .work .now) (start .args .s))
               ∙ sym (else .before .all-nodes .ensures d (rows-of _ _)) ∙ not-false _ (else .if1 .left)),
         ),
       ),

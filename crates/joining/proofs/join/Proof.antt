@@ -1,5 +1,5 @@
--- `joining::join` meets its contract. The invariant: the rows of s before a are joined and laid (`Laying`), and `from` is a place
--- among u's rows. The measure is how many rows of s are left.
+-- `joining::join` meets its contract. The invariant: the rows of s before a are joined and laid (`Laying`), and
+-- `from` is a place among u's rows. The measure is how many rows of s are left.
 use Prim.Native.Nat.{_+_, _-_, _*_, _≤_}
 use mathlib.Core.Path.{_≡_, sym, ap, _∙_, subst}
 use native.Mathlib.Omega.{arith}
@@ -14,12 +14,15 @@ use Rattle.meaning.specs.Operators.{Table, cell, column}
 use Rattle.tables.specs.declared.Laid.the-variants.{Rows}
 use Rattle.tables.specs.Layout.{Owes, Inside, tableAt}
 use Rattle.tables.proofs.Promise.{owes-is}
-use Rattle.tables.proofs.Columns.{cell-read}
+use Rattle.tables.proofs.Reading.{cell-read}
 use Rattle.tables.proofs.Unrolled.{past-first}
-use Rattle.tables.proofs.Laying.{Laying, counted-fits, length-laying, laying-start, row-more, row-stopped, rows-laid}
-use Rattle.joining.specs.Narrowed.{climbs}
+use Rattle.tables.proofs.Laying.{counted-fits, length-laying, laying-start, row-more, row-stopped, rows-laid}
+use Rattle.tables.specs.Laying.{Laying}
+use Rattle.tables.specs.Order.{climbs}
 use Rattle.joining.proofs.Narrowing.{narrows-cell}
-use Rattle.joining.proofs.Joining.{joinedRow, join-each, join-settled, joined-laid, table-below, inside-up}
+use Rattle.joining.proofs.Joining.{join-each, join-settled, joined-laid}
+use Rattle.joining.specs.Joined.{joinedRow}
+use Rattle.tables.proofs.Standing.{table-below, inside-up}
 use borrow.Author.Needs.{needs}
 use Rattle.joining.proofs.join.Statement.{statement}
 use Rattle.joining.proofs.join.Tie as tie
@@ -83,7 +86,8 @@ part-requires : tie.Need-part-requires Inv-loop μ-loop
 part-requires c κs =
     let at = c .before .before .before in (
       (inside-up _ _ _ (omega (arith, long at)) (at .before .before .before .pre .1), omega arith, omega arith),
-      at .before .climbs .ensures ∙ ap (λ (t : Table). climbs (column t (at .before .before .before .args .d))) (sym (other at)),
+      at .before .climbs .ensures
+          ∙ ap (λ (t : Table). climbs (column t (at .before .before .before .args .d))) (sym (other at)),
     )
 
 join-part-requires : tie.Need-join-part-requires Inv-loop μ-loop
@@ -133,7 +137,8 @@ counted : (c : tie.After-known-told Inv-loop μ-loop) →
     at .loop .n + c .before .laid .given .0 .0 ≤ at .before .before .before .args .room
 counted c =
     let at = c .before .before .before .before .before .before .before .before .before .before in
-    counted-fits _ _ _ _ _ _ (omega (arith, at .before .before .before .pre .6)) (at .loop .inv .2 .top-is) (room-left c)
+    counted-fits _ _ _ _ _ _ (omega (arith, at .before .before .before .pre .6)) (at .loop .inv .2 .top-is)
+    (room-left c)
 
 enum-known-laid : tie.Need-enum-known-laid Inv-loop μ-loop
 enum-known-laid c = search needs
@@ -148,7 +153,8 @@ returns c =
     let in-loop = c .before .before .before .before .before .before .before in
     let at = in-loop .before in
     owes-is _ _ _ _ _ _ (join-each _ _ _ _ _)
-    (row-stopped _ _ _ _ _ _ _ _ _ _ _ _ (in-loop .loop-test .taken) (omega arith) (at .loop .inv .2) _ _ (c .match .keys2)
+    (row-stopped _ _ _ _ _ _ _ _ _ _ _ _ (in-loop .loop-test .taken) (omega arith) (at .loop .inv .2) _ _
+    (c .match .keys2)
     (join-settled _ _ _ _ _) (owed (c .before)))
 
 mul-top : tie.Need-mul-top Inv-loop μ-loop
@@ -185,7 +191,8 @@ same-length-2 c = long (c .before)
 returns-2 : tie.Need-returns-2 Inv-loop μ-loop
 unfolding tableAt
 returns-2 c =
-    owes-is _ _ _ _ _ _ (join-each _ _ _ _ _) (rows-laid _ _ _ _ _ _ _ _ _ _ _ _ (omega arith) (c .before .loop .inv .2))
+    owes-is _ _ _ _ _ _ (join-each _ _ _ _ _)
+    (rows-laid _ _ _ _ _ _ _ _ _ _ _ _ (omega arith) (c .before .loop .inv .2))
 
 pub join-spec : {M : Type 1} → statement M
 join-spec =

@@ -1,7 +1,7 @@
 -- `numbering::number` meets its contract: what follows from the room, then what `arrange` and `lay` leave.
 use Prim.Native.Nat.{_+_, _*_, _≤_, _<_}
 use Rattle.tables.specs.Layout.{Inside}
-use Rattle.numbering.proofs.Sorted.{column-p, numbers-within}
+use Rattle.numbering.proofs.Sorted.{column-p, numbers-within, number-within}
 use native.Mathlib.Omega.{arith}
 use Rattle.numbering.specs.Order.{Low}
 use Rattle.numbering.proofs.Owed.{positive, owed-none, owed-full, owed-laid, low, product, few}
@@ -72,7 +72,9 @@ lay-requires c κs =
       inside = f .0 .0;
       room = omega (arith, room-here fitting, f .0 .2);
       numbers = omega (arith, sorted .arrange .kept, f);
-      within = numbers-within _ _ _ _ (f .1 .0) _ (sorted .arrange .ensures);
+      within =
+          number-within _ _ (omega (arith, sorted .arrange .kept, f))
+          (numbers-within _ _ _ _ (f .1 .0) _ (sorted .arrange .ensures));
       column = column-p _ _ _ (f .1 .0);
     }
 

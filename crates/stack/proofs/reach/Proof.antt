@@ -7,8 +7,8 @@ use Rattle.stack.proofs.reach.Statement.{statement}
 use Rattle.stack.proofs.reach.Tie as tie
 use Rattle.stack.proofs.reach.Reads as reads
 use Rattle.stack.proofs.reach.Lts as lts
-use Rattle.steps.proofs.mark.Reads as mark-reads
-use Rattle.steps.proofs.step.Reads as step-reads
+use Rattle.marks.proofs.mark.Reads as mark-reads
+use Rattle.axes.proofs.step.Reads as step-reads
 
 -- src/lib.rt:325:9
 mark-requires : tie.Need-mark-requires

@@ -13,8 +13,8 @@ use Rattle.stack.proofs.step.Reads as reads
 use Rattle.stack.proofs.step.Lts as lts
 use Rattle.stack.proofs.larger.Reads as larger-reads
 use Rattle.stack.proofs.reach.Reads as reach-reads
-use Rattle.steps.proofs.count.Reads as count-reads
-use Rattle.steps.proofs.write.Reads as write-reads
+use Rattle.marks.proofs.count.Reads as count-reads
+use Rattle.marks.proofs.write.Reads as write-reads
 
 -- the items of the operand stand within the room
 fit :

@@ -1,5 +1,5 @@
--- `groups::each::each_group` meets its contract. The invariant: what is made of the groups that open before row i is laid (`Lays`). The
--- measure is how many rows are left.
+-- `groups::each::each_group` meets its contract. The invariant: what is made of the groups that open before row i is
+-- laid (`Lays`). The measure is how many rows are left.
 use Prim.Native.Nat.{_+_, _-_, _*_, _≤_, _<_}
 use mathlib.Core.Path.{_≡_, refl, sym, ap, _∙_, subst}
 use native.Mathlib.Omega.{arith}
@@ -11,9 +11,9 @@ use Rattle.tables.specs.declared.Laid.the-variants.{Rows}
 use Rattle.tables.specs.Layout.{tableAt, Inside, Owes}
 use Rattle.tables.proofs.Promise.{owes-is}
 use Rattle.tables.proofs.Laying.{counted-fits, length-laying}
-use Rattle.members.specs.Grouped.{climbs}
+use Rattle.tables.specs.Order.{climbs}
 use Rattle.groups.specs.Gathered.{columnOf, turn}
-use Rattle.members.proofs.Reading.{length-table}
+use Rattle.tables.proofs.Reading.{length-table}
 use Rattle.groups.proofs.Gathering.{suits-long, table-kept}
 use Rattle.groups.proofs.Passing.{Lays, lays-first, lays-more, lays-stopped, lays-end}
 use borrow.Author.Needs.{needs}
@@ -32,7 +32,9 @@ abbrev μ-loop : tie.MeasureT-loop
 loop-holds : tie.Need-loop-holds Inv-loop μ-loop
 loop-holds c = (refl, refl, lays-first _ _ _ _ _ _ (omega arith))
 
-long : (c : tie.At-loop Inv-loop μ-loop) → length (c .loop .work) ≡ length (c .before .before .before .before .args .work .now)
+long :
+    (c : tie.At-loop Inv-loop μ-loop)
+    → length (c .loop .work) ≡ length (c .before .before .before .before .args .work .now)
 long c = length-laying _ _ _ _ _ _ _ _ _ (omega arith) (c .loop .inv .2)
 
 -- the table stands as it did
@@ -62,7 +64,8 @@ owed c =
     let at = c .before .before .before .before .before .before in
     let g = at .before .before .before .before .args in
     owes-is _ _ _ _ _ _
-    (ap (λ (t : Table). turn (g .gather) (worldOf (catalogueOf (g .doc .now) (g .rows))) t (at .loop .i)) (sym (kept at))) (c .turn .ensures)
+    (ap (λ (t : Table). turn (g .gather) (worldOf (catalogueOf (g .doc .now) (g .rows))) t (at .loop .i))
+    (sym (kept at))) (c .turn .ensures)
 
 owed-rows : (c : tie.After-known-told Inv-loop μ-loop) →
     let turned = c .before .before .before .before .before .before .before .before in
@@ -71,19 +74,24 @@ owed-rows : (c : tie.After-known-told Inv-loop μ-loop) →
     Owes (g .room) (at .loop .top) 2
     (turn (g .gather) (worldOf (catalogueOf (g .doc .now) (g .rows))) (tableAt (g .work .now) (g .s)) (at .loop .i))
     (at .loop .work) (turned .turn .last .1 .1 .1 .0) (Rows (c .before .laid .given .0 .0))
-owed-rows c = subst (Owes _ _ _ _ _ _) (c .before .laid .given .1) (owed (c .before .before .before .before .before .before .before .before))
+owed-rows c =
+    subst (Owes _ _ _ _ _ _) (c .before .laid .given .1)
+    (owed (c .before .before .before .before .before .before .before .before))
 
 room-left : (c : tie.After-known-told Inv-loop μ-loop) →
-    let at = c .before .before .before .before .before .before .before .before .before .before .before .before .before .before in
+    let at =
+    c .before .before .before .before .before .before .before .before .before .before .before .before .before .before in
     at .loop .top + c .before .laid .given .0 .0 * 2 ≤ at .before .before .before .before .args .room
 unfolding Owes
 room-left c = owed-rows c .fits
 
 counted : (c : tie.After-known-told Inv-loop μ-loop) →
-    let at = c .before .before .before .before .before .before .before .before .before .before .before .before .before .before in
+    let at =
+    c .before .before .before .before .before .before .before .before .before .before .before .before .before .before in
     at .loop .n + c .before .laid .given .0 .0 ≤ at .before .before .before .before .args .room
 counted c =
-    let at = c .before .before .before .before .before .before .before .before .before .before .before .before .before .before in
+    let at =
+    c .before .before .before .before .before .before .before .before .before .before .before .before .before .before in
     counted-fits _ _ 2 _ _ _ (omega arith) (at .loop .inv .2 .top-is) (room-left c)
 
 turn-requires : tie.Need-turn-requires Inv-loop μ-loop
@@ -126,7 +134,8 @@ returns c =
     let turned = c .before .before .before .before .before .before in
     let at = turned .before .before .before .before .before .before in
     let start = at .before .before .before .before in
-    lays-stopped _ _ _ _ _ _ _ _ _ _ (at .loop .inv .2) (here (turned .before .before .before .before)) (omega arith) _ _ (c .match .keys2)
+    lays-stopped _ _ _ _ _ _ _ _ _ _ (at .loop .inv .2) (here (turned .before .before .before .before)) (omega arith)
+    _ _ (c .match .keys2)
     (start .pre .1 .1 .1) (owed turned)
 
 mul-top : tie.Need-mul-top Inv-loop μ-loop
@@ -150,7 +159,8 @@ loop-again c =
     let at = turned .before .before .before .before .before .before in (
       turned .turn .kept .1 .1 .1 .1 .1 .1 .1 .0 ∙ at .loop .inv .0,
       turned .turn .kept .1 .1 .1 .1 .1 .1 .1 .1 .0 ∙ at .loop .inv .1,
-      lays-more _ _ _ _ _ _ _ _ _ _ (at .loop .inv .2) (here (turned .before .before .before .before)) (omega arith) _ _ (owed-rows c),
+      lays-more _ _ _ _ _ _ _ _ _ _ (at .loop .inv .2) (here (turned .before .before .before .before)) (omega arith) _
+          _ (owed-rows c),
     )
 
 same-length-4 : tie.Need-same-length-4 Inv-loop μ-loop

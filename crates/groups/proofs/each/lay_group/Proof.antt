@@ -39,7 +39,8 @@ same-length-2 : tie.Need-same-length-2
 same-length-2 c = search needs
 
 returns-2 : tie.Need-returns-2
-returns-2 c = owes-truth _ _ _ _ _ _ _ _ (c .before .before .before .enum-told .given .1) (c .before .truth-group .ensures)
+returns-2 c =
+    owes-truth _ _ _ _ _ _ _ _ (c .before .before .before .enum-told .given .1) (c .before .truth-group .ensures)
 
 same-length-3 : tie.Need-same-length-3
 same-length-3 c = search needs
@@ -53,7 +54,8 @@ same-length-5 c = search needs
 returns-3 : tie.Need-returns-3
 returns-3 c =
     let stepping = c .before .before .before .before .before in
-    owes-step _ _ _ _ _ _ _ _ _ _ (stepping .before .before .before .before .before .gather2 .given .1) (stepping .step-group .ensures)
+    owes-step _ _ _ _ _ _ _ _ _ _ (stepping .before .before .before .before .before .gather2 .given .1)
+    (stepping .step-group .ensures)
 
 pub lay-group-spec : {M : Type 1} → statement M
 lay-group-spec =
