@@ -20,8 +20,8 @@ use cells::Axis;
 use cells::Test;
 use directory::stand;
 use numbering::Keys;
-use tables::Laid;
 use rowwise::Task;
+use tables::Laid;
 
 // The row-wise operators, RA RP RS RF: a task for each row of table t.
 pub fn rowwise(

@@ -13,8 +13,8 @@ ghost use Rattle.directory.specs.Sound.{madeWidth, Sound};
 mod arms;
 
 use plans::Operator;
-use tables::Laid;
 use rowwise::Task;
+use tables::Laid;
 
 // The end of the tables: how many stand, and the cells that they fill.
 pub struct Top {
