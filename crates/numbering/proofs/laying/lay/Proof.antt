@@ -14,6 +14,10 @@ Inv-loop work₀ s p order at n w to₀ c₀ last₀ i₀ work to c last i = Tur
 abbrev μ-loop : tie.MeasureT-loop
 μ-loop work₀ s p order at n w to₀ c₀ last₀ i₀ work to c last i = n - i
 
+-- places on the way
+abbrev loop-of : tie.After-work Inv-loop μ-loop → tie.In-loop Inv-loop μ-loop
+loop-of c = c .before .before .before .before .before .before .before
+
 -- there is room for the row of a turn
 room-left :
     (c : tie.In-loop Inv-loop μ-loop) →
@@ -43,10 +47,10 @@ lay-row-requires c κs =
     (c .before .before .counter .ensures)
 
 add-to : tie.Need-add-to Inv-loop μ-loop
-add-to c = omega (arith, room-left (c .before .before .before .before .before .before .before))
+add-to c = omega (arith, room-left (loop-of c))
 
 add-to-2 : tie.Need-add-to-2 Inv-loop μ-loop
-add-to-2 c = omega (arith, room-left (c .before .before .before .before .before .before .before))
+add-to-2 c = omega (arith, room-left (loop-of c))
 
 add-i : tie.Need-add-i Inv-loop μ-loop
 add-i c = search needs
@@ -56,7 +60,7 @@ loop-less c = search needs
 
 loop-again : tie.Need-loop-again Inv-loop μ-loop
 loop-again c =
-    let l = c .before .before .before .before .before .before .before in
+    let l = loop-of c in
     goes-on _ _ _ _ _ (l .before .before .before .pre) _ _ _ _ _ (l .before .loop .inv) (l .loop-test .taken) _ _ _ refl
     (c .before .before .start .ensures)
     (c .before .before .before .before .counter .ensures)
