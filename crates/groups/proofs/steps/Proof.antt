@@ -14,6 +14,10 @@ use borrow.Author.Needs.{needs}
 use Rattle.groups.proofs.steps.Statement.{statement}
 use Rattle.groups.proofs.steps.Tie as tie
 
+-- places on the way
+abbrev start-of : tie.After-all-nodes → tie.Start
+start-of c = c .before .before .before .before .before
+
 all-nodes-requires : tie.Need-all-nodes-requires
 unfolding Inside
 all-nodes-requires c κs = (omega arith, c .before .before .before .before .pre .0 .3)
@@ -24,7 +28,7 @@ same-length c = search needs
 returns : tie.Need-returns
 unfolding Owes
 returns c =
-    let start = c .before .before .before .before .before .before in
+    let start = start-of (c .before) in
     let d = catalogueOf (start .args .doc .now) (start .args .rows) in
     record {
       made-is =
@@ -44,7 +48,7 @@ unfolding Asks columnOf
 each-group-requires c κs =
     let climbing = c .before .before .before in
     let else = climbing .before .before in
-    let start = else .before .before .before .before .before .before in
+    let start = start-of (else .before) in
     let d = catalogueOf (start .args .doc .now) (start .args .rows) in (
       (start .pre .0 .0, start .pre .0 .1, start .pre .0 .2),
       (

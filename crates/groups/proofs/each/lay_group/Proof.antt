@@ -4,12 +4,16 @@ use borrow.Author.Needs.{needs}
 use Rattle.groups.proofs.each.lay_group.Statement.{statement}
 use Rattle.groups.proofs.each.lay_group.Tie as tie
 
+-- places on the way
+abbrev start-of : tie.After-slice-known2 → tie.Start
+start-of c = c .before .before .before
+
 enum-known-gather : tie.Need-enum-known-gather
 enum-known-gather c = search needs
 
 count-group-requires : tie.Need-count-group-requires
 count-group-requires c κs =
-    let start = c .before .before .before .before .before .before .before in
+    let start = start-of (c .before .before .before .before) in
     (start .pre .0, suits-count _ _ _ _ _ _ _ (start .pre .1) _ (c .before .before .gather .given .1))
 
 enum-told : tie.Need-enum-told
@@ -17,7 +21,7 @@ enum-told c = search needs
 
 truth-group-requires : tie.Need-truth-group-requires
 truth-group-requires c κs =
-    let start = c .before .before .before .before .before .before in
+    let start = start-of (c .before .before .before) in
     (start .pre .0, suits-truth _ _ _ _ _ _ _ (start .pre .1) (c .before .enum-told .given .1))
 
 enum-known-gather-2 : tie.Need-enum-known-gather-2
@@ -25,7 +29,7 @@ enum-known-gather-2 c = search needs
 
 step-group-requires : tie.Need-step-group-requires
 step-group-requires c κs =
-    let start = c .before .before .before .before .before .before .before .before .before in
+    let start = start-of (c .before .before .before .before .before .before) in
     (start .pre .0, suits-step _ _ _ _ _ _ _ (start .pre .1) _ _ (c .before .before .before .before .gather2 .given .1))
 
 same-length : tie.Need-same-length

@@ -16,6 +16,10 @@ use borrow.Author.Needs.{needs}
 use Rattle.groups.proofs.each.turn.Statement.{statement}
 use Rattle.groups.proofs.each.turn.Tie as tie
 
+-- places on the way
+abbrev start-of : tie.After-opens → tie.Start
+start-of c = c .before .before .before .before .before .before
+
 column-of-requires : tie.Need-column-of-requires
 column-of-requires c κs = search needs
 
@@ -40,11 +44,11 @@ opens-requires c κs = ((omega arith, inside (c .before), omega arith), told (c 
 
 -- whether the row opens a group, as the definition has it
 opened : (c : tie.After-opens) →
-    let start = c .before .before .before .before .before .before in
+    let start = start-of c in
     c .opens .result
     ≡ opening (tableAt (start .args .work .now) (start .args .s)) (columnOf (start .args .gather)) (start .args .i)
 opened c =
-    let start = c .before .before .before .before .before .before in
+    let start = start-of c in
     c .opens .ensures
     ∙ ap (λ k. opening (tableAt (start .args .work .now) (start .args .s)) k (start .args .i))
     (c .before .before .column-of .ensures)
@@ -70,7 +74,7 @@ lay-group-requires : tie.Need-lay-group-requires
 unfolding Inside
 lay-group-requires c κs =
     let parting = c .before .before .before in
-    let start = parting .before .before .before .before .before .before .before .before .before in
+    let start = start-of (parting .before .before .before) in
     let p = parting .part .ensures in
     ((omega (arith, p .0), p .2, omega arith, omega arith), suits-wide _ _ _ _ _ _ _ _ (p .1) (start .pre .1 .0))
 
@@ -85,14 +89,14 @@ same-length-4 c = search needs
 
 -- the part of the table, by the column that the definition names
 parted : (c : tie.After-part) →
-    let start = c .before .before .before .before .before .before .before .before .before in
+    let start = start-of (c .before .before .before) in
     let k = columnOf (start .args .gather) in
     let t = tableAt (start .args .work .now) (start .args .s) in
     let p = tableAt (start .args .work .now) (c .part .result) in
     (inFront p k ≡ cellAt t k (start .args .i))
     × (groupOf p k (cellAt t k (start .args .i)) ≡ groupOf t k (cellAt t k (start .args .i)))
 parted c =
-    let start = c .before .before .before .before .before .before .before .before .before in
+    let start = start-of (c .before .before .before) in
     let t = tableAt (start .args .work .now) (start .args .s) in
     let p = tableAt (start .args .work .now) (c .part .result) in
     subst
