@@ -37,6 +37,16 @@ Inv-loop work₀ c u d at room w v step climbing a₀ left₀ top₀ n₀ from�
 abbrev μ-loop : tie.MeasureT-loop
 μ-loop work₀ c u d at room w v step climbing a₀ left₀ top₀ n₀ from₀ work a left top n from = left
 
+-- places on the way
+abbrev loop-of : tie.After-work Inv-loop μ-loop → tie.At-loop Inv-loop μ-loop
+loop-of c = c .before .before .before .before .before .before .before
+
+abbrev turn-of : tie.After-work Inv-loop μ-loop → tie.In-loop Inv-loop μ-loop
+turn-of c = c .before .before .before .before .before .before
+
+abbrev part-of : tie.After-known-told Inv-loop μ-loop → tie.After-part Inv-loop μ-loop
+part-of c = c .before .before .before .before .before .before
+
 add-step : tie.Need-add-step Inv-loop μ-loop
 add-step c = omega arith
 
@@ -102,14 +112,14 @@ join-part-requires c κs =
 
 -- what the turn owes, as the rows stood at entry
 owed : (c : tie.After-work Inv-loop μ-loop) →
-    let at = c .before .before .before .before .before .before .before in
+    let at = loop-of c in
     let g = at .before .before .before .args in
     Owes (g .room) (at .loop .top) (g .s .width + g .u .width)
     (joinedRow (g .work .now) (g .u) (g .c) (g .d) (row (g .work .now) (at .loop .a) (g .s .width)))
     (at .loop .work) (c .before .join-part .last .0) (c .before .join-part .result)
 unfolding joinedRow
 owed c =
-    let in-loop = c .before .before .before .before .before .before in
+    let in-loop = turn-of c in
     let at = in-loop .before in
     owes-is _ _ _ _ _ _
     (joined-laid _ _ _ _ (at .loop .inv .2 .cells-are) (omega arith) _ _ _ _ _ (omega (arith, first in-loop))
@@ -118,7 +128,7 @@ owed c =
 
 owed-rows : (c : tie.After-known-told Inv-loop μ-loop) →
     let work = c .before .before .before in
-    let at = work .before .before .before .before .before .before .before in
+    let at = loop-of work in
     let g = at .before .before .before .args in
     Owes (g .room) (at .loop .top) (g .s .width + g .u .width)
     (joinedRow (g .work .now) (g .u) (g .c) (g .d) (row (g .work .now) (at .loop .a) (g .s .width)))
@@ -126,17 +136,17 @@ owed-rows : (c : tie.After-known-told Inv-loop μ-loop) →
 owed-rows c = subst (Owes _ _ _ _ _ _) (c .before .laid .given .1) (owed (c .before .before .before))
 
 room-left : (c : tie.After-known-told Inv-loop μ-loop) →
-    let at = c .before .before .before .before .before .before .before .before .before .before in
+    let at = loop-of (c .before .before .before) in
     let g = at .before .before .before .args in
     at .loop .top + c .before .laid .given .0 .0 * (g .s .width + g .u .width) ≤ g .room
 unfolding Owes
 room-left c = owed-rows c .fits
 
 counted : (c : tie.After-known-told Inv-loop μ-loop) →
-    let at = c .before .before .before .before .before .before .before .before .before .before in
+    let at = loop-of (c .before .before .before) in
     at .loop .n + c .before .laid .given .0 .0 ≤ at .before .before .before .args .room
 counted c =
-    let at = c .before .before .before .before .before .before .before .before .before .before in
+    let at = loop-of (c .before .before .before) in
     counted-fits _ _ _ _ _ _ (omega (arith, at .before .before .before .pre .6)) (at .loop .inv .2 .top-is)
     (room-left c)
 
@@ -145,12 +155,12 @@ enum-known-laid c = search needs
 
 same-length : tie.Need-same-length Inv-loop μ-loop
 same-length c =
-    c .before .before .join-part .kept .0 ∙ long (c .before .before .before .before .before .before .before .before)
+    c .before .before .join-part .kept .0 ∙ long (loop-of (c .before))
 
 returns : tie.Need-returns Inv-loop μ-loop
 unfolding tableAt
 returns c =
-    let in-loop = c .before .before .before .before .before .before .before in
+    let in-loop = turn-of (c .before) in
     let at = in-loop .before in
     owes-is _ _ _ _ _ _ (join-each _ _ _ _ _)
     (row-stopped _ _ _ _ _ _ _ _ _ _ _ _ (in-loop .loop-test .taken) (omega arith) (at .loop .inv .2) _ _
@@ -167,7 +177,7 @@ add-n : tie.Need-add-n Inv-loop μ-loop
 add-n c = omega (arith, counted c)
 
 add-a : tie.Need-add-a Inv-loop μ-loop
-add-a c = omega (arith, first (c .before .before .before .before .before .before .before .before .before))
+add-a c = omega (arith, first (turn-of (c .before .before .before)))
 
 sub-left : tie.Need-sub-left Inv-loop μ-loop
 sub-left c = omega arith
@@ -177,8 +187,8 @@ loop-less c = omega arith
 
 loop-again : tie.Need-loop-again Inv-loop μ-loop
 loop-again c =
-    let in-loop = c .before .before .before .before .before .before .before .before .before in
-    let found = c .before .before .before .before .before .before in
+    let in-loop = turn-of (c .before .before .before) in
+    let found = part-of c in
     let at = in-loop .before in (
       omega (arith, first in-loop),
       omega (arith, found .part .ensures .ordered, found .part .ensures .within),

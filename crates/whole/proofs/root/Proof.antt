@@ -14,6 +14,13 @@ use borrow.Author.Needs.{needs}
 use Rattle.whole.proofs.root.Statement.{statement}
 use Rattle.whole.proofs.root.Tie as tie
 
+-- places on the way
+abbrev start-of : tie.After-rowwise-arg → tie.Start
+start-of c = c .before .before .before .before .before .before .before .before .before
+
+abbrev root-of : tie.After-work → tie.After-root
+root-of c = c .before .before .before .before .before .before
+
 returns : tie.Need-returns
 returns c = owes-is _ _ _ _ _ _ (rooted-none _ _ _ _ (c .if1 .taken)) (none-laid _ _ _ _ (omega arith))
 
@@ -43,7 +50,7 @@ rowwise-requires : tie.Need-rowwise-requires
 unfolding Suits wider
 rowwise-requires c κs = (
   (
-    c .before .before .before .before .before .before .before .before .before .pre .0 .0,
+    start-of c .pre .0 .0,
     omega arith,
     omega arith,
     omega arith,
@@ -61,7 +68,7 @@ returns-3 c =
     (rooted-is _ _ _ _ _ _
     (ap gives (toZ-ofZ (narrow (c .before .before .before)))
     ∙ sym (ap tried (c .before .before .before .before .tried .given .1))
-    ∙ c .before .before .before .before .before .before .root .ensures))
+    ∙ root-of c .root .ensures))
     (c .before .rowwise .ensures)
 
 pub root-spec : {M : Type 1} → statement M

@@ -13,6 +13,13 @@ use borrow.Author.Needs.{needs}
 use Rattle.joining.proofs.pairs.join_pair.Statement.{statement}
 use Rattle.joining.proofs.pairs.join_pair.Tie as tie
 
+-- places on the way
+abbrev same-of : tie.After-work2 → tie.After-same
+same-of c = c .before .before .before .before .before .before .before .before
+
+abbrev else-of : tie.After-work2 → tie.Else1
+else-of c = c .before .before .before .before .before .before .before
+
 add-same : tie.Need-add-same
 add-same c = search needs
 
@@ -77,8 +84,7 @@ same-length c = search needs
 returns-3 : tie.Need-returns-3
 unfolding joinOne
 returns-3 c =
-    owes-then _ _ _ _ _ _ _ _ _ (test (c .before .before .before .before .before .before .before .before)
-    ∙ not-false _ (c .before .before .before .before .before .before .before .if1 .left))
+    owes-then _ _ _ _ _ _ _ _ _ (test (same-of c) ∙ not-false _ (else-of c .if1 .left))
     (pair-laid _ _ _ _ _ _ _ (omega arith) (omega arith) (omega arith) _ _ (omega arith) (omega arith)
     (c .before .before .before .before .copy .ensures) (c .before .copy2 .ensures))
 

@@ -27,6 +27,13 @@ Inv-loop work₀ a w k d at room v b₀ left₀ top₀ n₀ work b left top n =
 abbrev μ-loop : tie.MeasureT-loop
 μ-loop work₀ a w k d at room v b₀ left₀ top₀ n₀ work b left top n = left
 
+-- places on the way
+abbrev loop-of : tie.After-known-told Inv-loop μ-loop → tie.At-loop Inv-loop μ-loop
+loop-of c = c .before .before .before .before .before .before .before
+
+abbrev turn-of : tie.After-known-told Inv-loop μ-loop → tie.In-loop Inv-loop μ-loop
+turn-of c = c .before .before .before .before .before .before
+
 loop-holds : tie.Need-loop-holds Inv-loop μ-loop
 unfolding Inside
 loop-holds c = (c .pre .1 .0, laying-start _ _ _ _ _ _ (omega arith))
@@ -58,7 +65,7 @@ owed c =
     (c .before .join-pair .ensures)
 
 owed-rows : (c : tie.After-known-told Inv-loop μ-loop) →
-    let at = c .before .before .before .before .before .before .before in
+    let at = loop-of c in
     let g = at .before .args in
     Owes (g .room) (at .loop .top) (g .w + g .s .width)
     (joinOne (row (g .work .now) (g .a) (g .w)) (g .k) (g .d) (row (g .work .now) (at .loop .b) (g .s .width)))
@@ -66,18 +73,18 @@ owed-rows : (c : tie.After-known-told Inv-loop μ-loop) →
 owed-rows c = subst (Owes _ _ _ _ _ _) (c .before .laid .given .1) (owed (c .before .before .before))
 
 room-left : (c : tie.After-known-told Inv-loop μ-loop) →
-    let at = c .before .before .before .before .before .before .before in
+    let at = loop-of c in
     let g = at .before .args in
     at .loop .top + c .before .laid .given .0 .0 * (g .w + g .s .width) ≤ g .room
 unfolding Owes
 room-left c = owed-rows c .fits
 
 counted : (c : tie.After-known-told Inv-loop μ-loop) →
-    let at = c .before .before .before .before .before .before .before in
+    let at = loop-of c in
     at .loop .n + c .before .laid .given .0 .0 ≤ at .before .args .room
 counted c =
     counted-fits _ _ _ _ _ _ (omega arith)
-    (c .before .before .before .before .before .before .before .loop .inv .1 .top-is) (room-left c)
+    (loop-of c .loop .inv .1 .top-is) (room-left c)
 
 join-pair-requires : tie.Need-join-pair-requires Inv-loop μ-loop
 join-pair-requires c κs = omega (arith, first (c .before), long (c .before .before))
@@ -97,7 +104,7 @@ returns c =
     (c .match .keys2) (_, each-join _ _ _ _) (owed (c .before)))
 
 add-top : tie.Need-add-top Inv-loop μ-loop
-add-top c = omega (arith, first (c .before .before .before .before .before .before))
+add-top c = omega (arith, first (turn-of c))
 
 mul-top : tie.Need-mul-top Inv-loop μ-loop
 mul-top c = omega (arith, room-left c)
@@ -109,7 +116,7 @@ add-n : tie.Need-add-n Inv-loop μ-loop
 add-n c = omega (arith, counted c)
 
 add-b : tie.Need-add-b Inv-loop μ-loop
-add-b c = omega (arith, first (c .before .before .before .before .before .before))
+add-b c = omega (arith, first (turn-of c))
 
 sub-left : tie.Need-sub-left Inv-loop μ-loop
 sub-left c = omega arith
@@ -119,7 +126,7 @@ loop-less c = omega arith
 
 loop-again : tie.Need-loop-again Inv-loop μ-loop
 loop-again c =
-    let at = c .before .before .before .before .before .before in (
+    let at = turn-of c in (
       omega (arith, first at),
       row-more _ _ _ _ _ _ _ _ _ _ _ _ (at .loop-test .taken) (omega arith) (at .before .loop .inv .1) _ _
           (owed-rows c),

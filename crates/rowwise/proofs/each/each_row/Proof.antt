@@ -28,6 +28,13 @@ Inv-loop plan doc rows work₀ task at room w step a₀ left₀ top₀ n₀ work
 abbrev μ-loop : tie.MeasureT-loop
 μ-loop plan doc rows work₀ task at room w step a₀ left₀ top₀ n₀ work a left top n = left
 
+-- places on the way
+abbrev loop-of : tie.After-known-told Inv-loop μ-loop → tie.At-loop Inv-loop μ-loop
+loop-of c = c .before .before .before .before .before .before .before
+
+abbrev turn-of : tie.After-known-told Inv-loop μ-loop → tie.In-loop Inv-loop μ-loop
+turn-of c = c .before .before .before .before .before .before
+
 wider-requires : tie.Need-wider-requires Inv-loop μ-loop
 wider-requires c κs = c .before .before .pre .1 .1 .0 .1
 
@@ -68,7 +75,7 @@ owed c =
     (c .before .lay-row .ensures))
 
 owed-rows : (c : tie.After-known-told Inv-loop μ-loop) →
-    let at = c .before .before .before .before .before .before .before in
+    let at = loop-of c in
     let g = at .before .before .before .before .args in
     Owes (g .room) (at .loop .top) (at .before .wider .result)
     (made (g .plan .now) (catalogueOf (g .doc .now) (g .rows)) (g .work .now) (g .task)
@@ -78,17 +85,17 @@ owed-rows : (c : tie.After-known-told Inv-loop μ-loop) →
 owed-rows c = subst (Owes _ _ _ _ _ _) (c .before .laid .given .1) (owed (c .before .before .before))
 
 room-left : (c : tie.After-known-told Inv-loop μ-loop) →
-    let at = c .before .before .before .before .before .before .before in
+    let at = loop-of c in
     at .loop .top + c .before .laid .given .0 .0 * at .before .wider .result
     ≤ at .before .before .before .before .args .room
 unfolding Owes
 room-left c = owed-rows c .fits
 
 counted : (c : tie.After-known-told Inv-loop μ-loop) →
-    let at = c .before .before .before .before .before .before .before in
+    let at = loop-of c in
     at .loop .n + c .before .laid .given .0 .0 ≤ at .before .before .before .before .args .room
 counted c =
-    let at = c .before .before .before .before .before .before .before in
+    let at = loop-of c in
     counted-fits _ _ _ _ _ _ (omega (
       arith,
       at .before .wider .ensures,
@@ -126,7 +133,7 @@ add-n : tie.Need-add-n Inv-loop μ-loop
 add-n c = omega (arith, counted c)
 
 add-a : tie.Need-add-a Inv-loop μ-loop
-add-a c = omega (arith, first (c .before .before .before .before .before .before))
+add-a c = omega (arith, first (turn-of c))
 
 sub-left : tie.Need-sub-left Inv-loop μ-loop
 sub-left c = omega arith
@@ -136,7 +143,7 @@ loop-less c = omega arith
 
 loop-again : tie.Need-loop-again Inv-loop μ-loop
 loop-again c =
-    let at = c .before .before .before .before .before .before in (
+    let at = turn-of c in (
       omega (arith, first at),
       row-more _ _ _ _ _ _ _ _ _ _ _ _ (at .loop-test .taken) (omega arith) (at .before .loop .inv .1) _ _
           (owed-rows c),

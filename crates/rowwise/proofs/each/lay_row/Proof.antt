@@ -10,6 +10,10 @@ use borrow.Author.Needs.{needs}
 use Rattle.rowwise.proofs.each.lay_row.Statement.{statement}
 use Rattle.rowwise.proofs.each.lay_row.Tie as tie
 
+-- places on the way
+abbrev start-of : tie.After-shared-slice-known2 → tie.Start
+start-of c = c .before .before
+
 enum-known-task : tie.Need-enum-known-task
 enum-known-task c = search needs
 
@@ -28,7 +32,7 @@ unfolding Suits
 project-requires c κs = (
   omega arith,
   task-suits _ _ (c .before .before .task2 .given .1) _ _ _
-      (c .before .before .before .before .before .before .pre .1 .1),
+      (start-of (c .before .before .before .before) .pre .1 .1),
 )
 
 enum-known-task-3 : tie.Need-enum-known-task-3
@@ -38,7 +42,7 @@ minus-requires : tie.Need-minus-requires
 unfolding Suits
 minus-requires c κs =
     let h = task-suits _ _ (c .before .before .task3 .given .1) _ _ _
-    (c .before .before .before .before .before .before .pre .1 .1) in
+    (start-of (c .before .before .before .before) .pre .1 .1) in
     (omega arith, omega arith, omega arith, h .0, h .1)
 
 enum-known-task-4 : tie.Need-enum-known-task-4
@@ -51,7 +55,7 @@ select-requires c κs = (
   omega arith,
   omega arith,
   task-suits _ _ (c .before .before .task4 .given .1) _ _ _
-      (c .before .before .before .before .before .before .pre .1 .1),
+      (start-of (c .before .before .before .before) .pre .1 .1),
 )
 
 enum-known-task-5 : tie.Need-enum-known-task-5
@@ -61,7 +65,7 @@ apply-requires : tie.Need-apply-requires
 unfolding Suits
 apply-requires c κs =
     let h = task-suits _ _ (c .before .before .task5 .given .1) _ _ _
-    (c .before .before .before .before .before .before .pre .1 .1) in
+    (start-of (c .before .before .before .before) .pre .1 .1) in
     (omega arith, omega arith, omega arith, h .0, h .1)
 
 enum-known-task-6 : tie.Need-enum-known-task-6
@@ -75,7 +79,7 @@ value-requires c κs = (
     omega arith,
     omega arith,
     task-suits _ _ (c .before .before .task6 .given .1) _ _ _
-        (c .before .before .before .before .before .before .pre .1 .1),
+        (start-of (c .before .before .before .before) .pre .1 .1),
   ),
   omega arith,
 )
