@@ -18,32 +18,33 @@ use Rattle.cells.specs.declared.Test.{Test}
 use Rattle.cells.proofs.Cells.{same-eq, same-refl}
 use Rattle.laws.specs.Lists.{filter, all, firsts}
 use Rattle.laws.specs.Rows.{laid}
-use Rattle.laws.proofs.Lists.{All, all-kept}
-use Rattle.laws.proofs.Filters.{In, all-in, all-of, in-filter}
+use Rattle.laws.specs.Lists.{All}
+use Rattle.laws.proofs.Lists.{all-kept}
+use Rattle.laws.specs.Lists.{In}
+use Rattle.laws.proofs.Filters.{all-in, all-of, in-filter, each-map}
 use Rattle.laws.proofs.Booleans.{by-cases, clash, both-true}
 use Rattle.laws.proofs.Rows.{rowsAt-laid}
 use Rattle.laws.specs.Attempt.{Attempt, fails, gives, attempt}
 use Rattle.meaning.specs.Catalogue.{Catalogue}
 use Rattle.meaning.specs.World.{World, worldOf, rankOf, ranksOf, reached, step, truth}
 use Rattle.meaning.specs.Operators.{Row, Table, cell, column, groups, groupOf, itemsInOrder, counts, truths, steps}
-use Rattle.steps.specs.Marks.{Ready}
+use Rattle.axes.specs.Steps.{Ready}
 use Rattle.tables.specs.declared.Stand.{Stand}
 use Rattle.tables.specs.declared.Laid.{Laid}
 use Rattle.tables.specs.Layout.{tableAt, Inside, Owes}
-use Rattle.tables.specs.Tasks.{succeeds, Settled}
-use Rattle.tables.proofs.Operators.{each-map}
+use Rattle.tables.specs.Laying.{succeeds, Settled}
 use Rattle.groups.specs.declared.Gather.{Gather}
 use Rattle.groups.specs.declared.Gather.the-variants.{Count, Truth, Step}
 use Rattle.members.specs.Grouped.{inFront}
-use Rattle.groups.specs.Gathered.{columnOf, gathered, made, whole, Suits}
-use Rattle.members.specs.Marking.{isNode}
+use Rattle.groups.specs.Gathered.{columnOf, gathered, made, whole, Asks}
+use Rattle.stepping.specs.Marking.{isNode}
 use Rattle.groups.proofs.Turns.{succeeds-each}
 
 module _ (gather k : Gather) (e : gather ≡ k) where
   gather-suits :
       (width room : ℕ) (doc : List ℕ) (rows : ℕ) (from to : List Bool) →
-      Suits gather width room doc rows from to → Suits k width room doc rows from to
-  gather-suits width room doc rows from to h = subst (λ (g : Gather). Suits g width room doc rows from to) e h
+      Asks gather width room doc rows from to → Asks k width room doc rows from to
+  gather-suits width room doc rows from to h = subst (λ (g : Gather). Asks g width room doc rows from to) e h
 
   gather-owes :
       (room at : ℕ) (w : World) (t : Table) (xs ys : List ℤ) (o : Laid) →
@@ -53,17 +54,17 @@ module _ (gather k : Gather) (e : gather ≡ k) where
       subst (λ (g : Gather). Owes room at 2 (made g w t (inFront t (columnOf g))) xs ys o) (sym e) h
 
 module _ (gather : Gather) (width room : ℕ) (doc : List ℕ) (rows : ℕ) (from to : List Bool)
-    (h : Suits gather width room doc rows from to) where
+    (h : Asks gather width room doc rows from to) where
   pub suits-count : (c : ℕ) → gather ≡ Count c → (c < width) × (room ≤ 65536)
-  unfolding Suits
+  unfolding Asks
   suits-count c e = gather-suits gather (Count c) e width room doc rows from to h
 
   pub suits-truth : gather ≡ Truth → width ≡ 3
-  unfolding Suits
+  unfolding Asks
   suits-truth e = gather-suits gather Truth e width room doc rows from to h
 
   pub suits-step : (axis : Axis) (test : Test) → gather ≡ Step axis test → (width ≡ 2) × Ready doc rows from to
-  unfolding Suits
+  unfolding Asks
   suits-step axis test e = gather-suits gather (Step axis test) e width room doc rows from to h
 
 module _ (gather : Gather) (room at : ℕ) (d : Catalogue) (t : Table) (xs ys : List ℤ) (o : Laid) where
@@ -77,7 +78,8 @@ module _ (gather : Gather) (room at : ℕ) (d : Catalogue) (t : Table) (xs ys : 
   pub owes-truth :
       gather ≡ Truth →
       Owes room at 2
-      (attempt (truth (itemsInOrder (groupOf t 0 (inFront t 0)))) (λ b. gives ((inFront t 0 ∷ truthCell b ∷ []) ∷ []))) xs ys o →
+      (attempt (truth (itemsInOrder (groupOf t 0 (inFront t 0))))
+      (λ b. gives ((inFront t 0 ∷ truthCell b ∷ []) ∷ []))) xs ys o →
       Owes room at 2 (made gather (worldOf d) t (inFront t (columnOf gather))) xs ys o
   unfolding made gathered columnOf worldOf
   owes-truth e h = gather-owes gather Truth e room at (worldOf d) t xs ys o h
@@ -85,29 +87,31 @@ module _ (gather : Gather) (room at : ℕ) (d : Catalogue) (t : Table) (xs ys : 
   pub owes-step :
       (axis : Axis) (test : Test) → gather ≡ Step axis test →
       Owes room at 2
-      (attempt (step d axis test (column (groupOf t 0 (inFront t 0)) 1)) (λ zs. gives (map (λ y. inFront t 0 ∷ y ∷ []) zs))) xs ys o →
+      (attempt (step d axis test (column (groupOf t 0 (inFront t 0)) 1))
+      (λ zs. gives (map (λ y. inFront t 0 ∷ y ∷ []) zs))) xs ys o →
       Owes room at 2 (made gather (worldOf d) t (inFront t (columnOf gather))) xs ys o
   unfolding made gathered columnOf worldOf
   owes-step axis test e h = gather-owes gather (Step axis test) e room at (worldOf d) t xs ys o h
 
 pub suits-column :
     (gather : Gather) (width room : ℕ) (doc : List ℕ) (rows : ℕ) (from to : List Bool) →
-    Suits gather width room doc rows from to → columnOf gather < width
-unfolding Suits columnOf
+    Asks gather width room doc rows from to → columnOf gather < width
+unfolding Asks columnOf
 suits-column (Count c) width room doc rows from to h = h .0
 suits-column Truth width room doc rows from to h = omega arith
 suits-column (Step axis test) width room doc rows from to h = omega (arith, h .0)
 
 pub suits-wide :
     (gather : Gather) (width wide room : ℕ) (doc : List ℕ) (rows : ℕ) (from to : List Bool) → wide ≡ width →
-    Suits gather width room doc rows from to → Suits gather wide room doc rows from to
-suits-wide gather width wide room doc rows from to e h = subst (λ (v : ℕ). Suits gather v room doc rows from to) (sym e) h
+    Asks gather width room doc rows from to → Asks gather wide room doc rows from to
+suits-wide gather width wide room doc rows from to e h =
+    subst (λ (v : ℕ). Asks gather v room doc rows from to) (sym e) h
 
 pub suits-long :
     (gather : Gather) (width room : ℕ) (doc : List ℕ) (rows : ℕ) (from to old new : List Bool) →
     length old ≡ length from → length new ≡ length to →
-    Suits gather width room doc rows from to → Suits gather width room doc rows old new
-unfolding Suits
+    Asks gather width room doc rows from to → Asks gather width room doc rows old new
+unfolding Asks
 suits-long (Count c) width room doc rows from to old new d e h = h
 suits-long Truth width room doc rows from to old new d e h = h
 suits-long (Step axis test) width room doc rows from to old new d e h = (
@@ -165,7 +169,9 @@ unfolding all
 all-mapped p f [] = refl
 all-mapped p f (x ∷ xs) = ap (p (f x) &&_) (all-mapped p f xs)
 
-all-skip : {A : Type 0} (p q : A → Bool) → ((x : A) → q x ≡ false → p x ≡ true) → (xs : List A) → all p (filter q xs) ≡ all p xs
+all-skip :
+    {A : Type 0} (p q : A → Bool) → ((x : A) → q x ≡ false → p x ≡ true) → (xs : List A)
+    → all p (filter q xs) ≡ all p xs
 unfolding all filter
 all-skip p q h [] = refl
 all-skip p q h (x ∷ xs) =
@@ -207,7 +213,8 @@ module _ (c : Catalogue) where
   step-succeeds axis test x xs = go (ranksOf c xs) ∙ ranks-succeed xs
     where
       go : (o : Attempt (List ℕ)) →
-          succeeds (attempt (attempt o (λ rs. gives (map nodeCell (reached c axis test rs)))) (λ ys. gives (map (λ y. x ∷ y ∷ []) ys)))
+          succeeds (attempt (attempt o (λ rs. gives (map nodeCell (reached c axis test rs))))
+          (λ ys. gives (map (λ y. x ∷ y ∷ []) ys)))
           ≡ succeeds o
       go fails = refl
       go (gives rs) = refl
@@ -228,7 +235,8 @@ module _ (c : Catalogue) where
     unfolding groupOf
     own e r i =
         all-in (λ q. node q ≡ true) (groupOf t 0 (cell r 0)) r
-        (all-true node (groupOf t 0 (cell r 0)) (sym (nodes-is r) ∙ all-in (λ q. nodes q ≡ true) t r (all-true nodes t e) i))
+        (all-true node (groupOf t 0 (cell r 0))
+        (sym (nodes-is r) ∙ all-in (λ q. nodes q ≡ true) t r (all-true nodes t e) i))
         (in-filter (λ q. same (cell r 0) (cell q 0)) t r i (same-refl (cell r 0)))
 
     others : all node t ≡ true → (r : Row) → nodes r ≡ true
@@ -252,6 +260,7 @@ module _ (c : Catalogue) where
   unfolding whole made gathered columnOf worldOf groups
   steps-succeed axis test t =
       succeeds-each (made (Step axis test) (worldOf c) t) (groups t 0)
-      ∙ ap (λ (p : ℤ → Bool). all p (groups t 0)) (fun-ext (λ (x : ℤ). step-succeeds axis test x (column (groupOf t 0 x) 1)))
+      ∙ ap (λ (p : ℤ → Bool). all p (groups t 0))
+      (fun-ext (λ (x : ℤ). step-succeeds axis test x (column (groupOf t 0 x) 1)))
       ∙ all-firsts (λ x. all (isNode c) (column (groupOf t 0 x) 1)) (column t 0)
       ∙ own-groups t

@@ -1,4 +1,5 @@
--- `make` of the operators that go by groups, where a table of the plan stands in the cells at s (document 01, 'Plan operators').
+-- `make` of the operators that go by groups, where a table of the plan stands in the cells at s (document 01, 'Plan
+-- operators').
 --     makes-RC, makes-RE, makes-RX
 use Prim.Native.Nat.{ℕ}
 use mathlib.Core.Path.{_≡_, sym, ap}

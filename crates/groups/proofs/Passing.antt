@@ -1,4 +1,5 @@
--- The passes over the rows of a table that meet its groups: laying what is made of them, and testing that it does not fail.
+-- The passes over the rows of a table that meet its groups: laying what is made of them, and testing that it does not
+-- fail.
 --     lays-first, lays-more, lays-stopped, lays-end     the rows of the groups are laid behind each other
 --     truth-turn                                    a group has a truth exactly where its turn does not fail
 --     tests-first, tests-fails, tests-more, tests-end    every turn is tested
@@ -19,12 +20,13 @@ use Rattle.meaning.specs.Operators.{Table, groupOf, itemsInOrder}
 use Rattle.tables.specs.declared.Laid.{Laid}
 use Rattle.tables.specs.declared.Laid.the-variants.{Rows}
 use Rattle.tables.specs.Layout.{Owes}
-use Rattle.tables.specs.Tasks.{succeeds, Settled}
+use Rattle.tables.specs.Laying.{succeeds, Settled, Laying}
 use Rattle.tables.proofs.Laid.{the-type}
-use Rattle.tables.proofs.Laying.{Laying, laying-start, laying-more, laying-stopped, laying-end}
+use Rattle.tables.proofs.Laying.{laying-start, laying-more, laying-stopped, laying-end}
 use Rattle.groups.specs.declared.Gather.{Gather}
 use Rattle.groups.specs.declared.Gather.the-variants.{Truth}
-use Rattle.members.specs.Grouped.{cellAt, inFront, opening}
+use Rattle.members.specs.Grouped.{inFront, opening}
+use Rattle.tables.specs.Order.{cellAt}
 use Rattle.groups.specs.Gathered.{columnOf, gathered, made, turn, whole}
 use Rattle.groups.proofs.Turns.{rest, rest-head, rest-none, rest-whole, succeeds-each, turn-yes}
 
@@ -43,13 +45,17 @@ module _ (room at : ℕ) (gather : Gather) (w : World) (t : Table) (entry : List
     pub lays-end : length t ≤ i → Owes room at 2 (whole gather w t) entry work (Rows n)
     lays-end h =
         laying-end room at 2 (λ (o : Attempt Table). o) entry (whole gather w t) work top n
-        (subst (λ (os : List (Attempt Table)). Laying room at 2 (λ (o : Attempt Table). o) (whole gather w t) entry os work top n)
+        (subst (λ (os : List (Attempt Table)). Laying room at 2 (λ (o : Attempt Table). o) (whole gather w t) entry os
+        work top n)
         (rest-none gather w t i h) l)
 
     module _ (here : i < length t) (inside : room ≤ length entry) (next : List ℤ) where
-      first : Laying room at 2 (λ (o : Attempt Table). o) (whole gather w t) entry (turn gather w t i ∷ rest gather w t (i + 1)) work top n
+      first :
+          Laying room at 2 (λ (o : Attempt Table). o) (whole gather w t) entry
+          (turn gather w t i ∷ rest gather w t (i + 1)) work top n
       first =
-          subst (λ (os : List (Attempt Table)). Laying room at 2 (λ (o : Attempt Table). o) (whole gather w t) entry os work top n)
+          subst (λ (os : List (Attempt Table)). Laying room at 2 (λ (o : Attempt Table). o) (whole gather w t) entry
+          os work top n)
           (rest-head gather w t i here) l
 
       pub lays-more :
@@ -73,9 +79,11 @@ pub truth-turn :
     succeeds (truth (itemsInOrder (groupOf p 0 (inFront p 0)))) ≡ succeeds (turn Truth (worldOf c) t i)
 unfolding columnOf made gathered worldOf attempt succeeds
 truth-turn c t p i e d g =
-    sym (ap succeeds (turn-yes Truth (worldOf c) t i p e d g) ∙ by-truth (truth (itemsInOrder (groupOf p 0 (inFront p 0)))))
+    sym (ap succeeds (turn-yes Truth (worldOf c) t i p e d g)
+    ∙ by-truth (truth (itemsInOrder (groupOf p 0 (inFront p 0)))))
   where
-    by-truth : (o : Attempt Bool) → succeeds (attempt o (λ b. gives ((inFront p 0 ∷ truthCell b ∷ []) ∷ []))) ≡ succeeds o
+    by-truth :
+        (o : Attempt Bool) → succeeds (attempt o (λ b. gives ((inFront p 0 ∷ truthCell b ∷ []) ∷ []))) ≡ succeeds o
     by-truth fails = refl
     by-truth (gives b) = refl
 

@@ -1,5 +1,6 @@
 -- Groups by first appearance, row by row.
---     turnsAfter f above xs     for each cell of xs what f makes of it, where it stands neither above nor further up in xs
+--     turnsAfter f above xs     for each cell of xs what f makes of it, where it stands neither above nor further up
+--     in xs
 --     each-turns                all of these are what f makes of the different cells
 --     rest gather w t i         what is made from row i of the table t on
 --     rest-head, rest-none, rest-whole     row i and the others; no row; all rows
@@ -23,11 +24,12 @@ use Rattle.laws.proofs.Booleans.{by-cases, clash}
 use Rattle.laws.specs.Attempt.{Attempt, fails, gives, attempt, each}
 use Rattle.meaning.specs.World.{World}
 use Rattle.meaning.specs.Operators.{Table, column, groups, groupOf}
-use Rattle.tables.specs.Tasks.{succeeds, Settled}
+use Rattle.tables.specs.Laying.{succeeds, Settled}
 use Rattle.groups.specs.declared.Gather.{Gather}
-use Rattle.members.specs.Grouped.{cellAt, inFront, opening}
+use Rattle.members.specs.Grouped.{inFront, opening}
+use Rattle.tables.specs.Order.{cellAt}
 use Rattle.groups.specs.Gathered.{columnOf, gathered, made, turn, whole}
-use Rattle.members.proofs.Reading.{length-column, getD-column}
+use Rattle.tables.proofs.Reading.{length-column, getD-column}
 
 unfoldable pub turnsAfter : (ℤ → Attempt Table) → List ℤ → List ℤ → List (Attempt Table)
 turnsAfter f above [] = []
@@ -44,7 +46,9 @@ any-snoc p (y ∷ ys) x = rw (any-snoc p ys x) (grouped (p y) (any p ys) (p x))
 
 -- two filters at once
 filter-both :
-    {A : Type 0} (p q r : A → Bool) → ((x : A) → r x ≡ (p x && q x)) → (xs : List A) → filter p (filter q xs) ≡ filter r xs
+    {A :
+    Type 0} (p q r : A → Bool) → ((x : A) → r x ≡ (p x && q x)) → (xs : List A)
+    → filter p (filter q xs) ≡ filter r xs
 unfolding filter
 filter-both p q r h [] = refl
 filter-both p q r h (x ∷ xs) =
@@ -70,29 +74,35 @@ unseen above y = not (any (same y) above)
 
 unseen-more : (above : List ℤ) (x y : ℤ) → unseen (above ++ (x ∷ [])) y ≡ (unseen above y && not (same x y))
 unseen-more above x y =
-    ap not (any-snoc (same y) above x ∙ ap (any (same y) above ||_) (same-sym y x)) ∙ both (any (same y) above) (same x y)
+    ap not (any-snoc (same y) above x ∙ ap (any (same y) above ||_) (same-sym y x))
+    ∙ both (any (same y) above) (same x y)
   where
     both : (a b : Bool) → not (a || b) ≡ (not a && not b)
     both true b = refl
     both false b = refl
 
 module _ (f : ℤ → Attempt Table) where
-  each-after : (above xs : List ℤ) → each f (filter (unseen above) (firsts same xs)) ≡ each (λ o. o) (turnsAfter f above xs)
+  each-after :
+      (above xs : List ℤ) → each f (filter (unseen above) (firsts same xs)) ≡ each (λ o. o) (turnsAfter f above xs)
   unfolding each firsts filter turnsAfter attempt
   each-after above [] = refl
   each-after above (x ∷ xs) =
       let others :
-      filter (unseen above) (filter (λ y. not (same x y)) (firsts same xs)) ≡ filter (unseen (above ++ (x ∷ []))) (firsts same xs) =
-      filter-both (unseen above) (λ y. not (same x y)) (unseen (above ++ (x ∷ []))) (unseen-more above x) (firsts same xs) in
+      filter (unseen above) (filter (λ y. not (same x y)) (firsts same xs))
+      ≡ filter (unseen (above ++ (x ∷ []))) (firsts same xs) =
+      filter-both (unseen above) (λ y. not (same x y)) (unseen (above ++ (x ∷ []))) (unseen-more above x)
+      (firsts same xs) in
       by-cases (unseen above x)
       (λ e. rw (e, others, each-after (above ++ (x ∷ [])) xs))
       (λ e.
-      rw (e, others, each-after (above ++ (x ∷ [])) xs) (sym (attempt-same (each (λ o. o) (turnsAfter f (above ++ (x ∷ [])) xs)))))
+      rw (e, others, each-after (above ++ (x ∷ [])) xs)
+      (sym (attempt-same (each (λ o. o) (turnsAfter f (above ++ (x ∷ [])) xs)))))
 
   each-turns : (xs : List ℤ) → each f (firsts same xs) ≡ each (λ o. o) (turnsAfter f [] xs)
   unfolding any
   each-turns xs =
-      ap (each f) (sym (filter-all (unseen []) (firsts same xs) (all-any (firsts same xs) (λ y. refl)))) ∙ each-after [] xs
+      ap (each f) (sym (filter-all (unseen []) (firsts same xs) (all-any (firsts same xs) (λ y. refl))))
+      ∙ each-after [] xs
 
 -- what is made from row i on
 abbrev pub rest : Gather → World → Table → ℕ → List (Attempt Table)
@@ -160,7 +170,8 @@ module _ (gather : Gather) (w : World) (t : Table) (i : ℕ) where
   -- p: the part of the table that has all the group's rows
   pub turn-yes :
       (p : Table) → opening t (columnOf gather) i ≡ true → inFront p (columnOf gather) ≡ cellAt t (columnOf gather) i →
-      groupOf p (columnOf gather) (cellAt t (columnOf gather) i) ≡ groupOf t (columnOf gather) (cellAt t (columnOf gather) i) →
+      groupOf p (columnOf gather) (cellAt t (columnOf gather) i)
+      ≡ groupOf t (columnOf gather) (cellAt t (columnOf gather) i) →
       turn gather w t i ≡ made gather w p (inFront p (columnOf gather))
   unfolding turn made
   turn-yes p e d g =

@@ -4,7 +4,7 @@
 --     made gather w t x          .. of the group of x in the table t
 --     turn gather w t i          the same for row i of t, where it opens a group: no rows where it does not
 --     whole gather w t           what is made of all groups, by first appearance
---     Suits ..                   what an operator asks of the table's width, of the catalogue and of the marks
+--     Asks ..                    what an operator asks of the table's width, of the catalogue and of the marks
 use Prim.Native.Nat.{ℕ, _≤_, _<_}
 use mathlib.Core.Path.{_≡_}
 use mathlib.Core.List.{List, [], _∷_, map}
@@ -15,10 +15,11 @@ use Rattle.cells.specs.Cell.{truthCell}
 use Rattle.laws.specs.Attempt.{Attempt, gives, attempt, each}
 use Rattle.meaning.specs.World.{World}
 use Rattle.meaning.specs.Operators.{Table, column, groups, groupOf, itemsInOrder}
-use Rattle.steps.specs.Marks.{Ready}
+use Rattle.axes.specs.Steps.{Ready}
 use Rattle.groups.specs.declared.Gather.{Gather}
 use Rattle.groups.specs.declared.Gather.the-variants.{Count, Truth, Step}
-use Rattle.members.specs.Grouped.{cellAt, opening}
+use Rattle.members.specs.Grouped.{opening}
+use Rattle.tables.specs.Order.{cellAt}
 
 unfoldable pub columnOf : Gather → ℕ
 columnOf (Count c) = c
@@ -41,7 +42,7 @@ unfoldable pub whole : Gather → World → Table → Attempt Table
 whole gather w t = each (made gather w t) (groups t (columnOf gather))
 
 -- RC: a column, and counts that fit a cell; RE: width 3; RX: width 2, a sound catalogue and marks for its rows
-unfoldable pub Suits : Gather → (width room : ℕ) → List ℕ → ℕ → (from to : List Bool) → Type 0
-Suits (Count c) width room doc rows from to = (c < width) × (room ≤ 65536)
-Suits Truth width room doc rows from to = width ≡ 3
-Suits (Step axis test) width room doc rows from to = (width ≡ 2) × Ready doc rows from to
+unfoldable pub Asks : Gather → (width room : ℕ) → List ℕ → ℕ → (from to : List Bool) → Type 0
+Asks (Count c) width room doc rows from to = (c < width) × (room ≤ 65536)
+Asks Truth width room doc rows from to = width ≡ 3
+Asks (Step axis test) width room doc rows from to = (width ≡ 2) × Ready doc rows from to

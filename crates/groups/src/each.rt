@@ -7,9 +7,10 @@ ghost use Rattle.meaning.specs.Catalogue.{Catalogue, catalogueOf};
 ghost use Rattle.meaning.specs.Operators.{column};
 ghost use Rattle.meaning.specs.World.{worldOf};
 ghost use Rattle.tables.specs.Layout.{tableAt, Inside, Owes};
-ghost use Rattle.tables.specs.Tasks.{succeeds, Settled};
+ghost use Rattle.tables.specs.Laying.{succeeds, Settled};
 ghost use Rattle.groups.specs.declared.Gather.the-variants as Gathers;
-ghost use Rattle.members.specs.Grouped.{inFront, climbs};
+ghost use Rattle.members.specs.Grouped.{inFront};
+ghost use Rattle.tables.specs.Order.{climbs};
 ghost use Rattle.groups.specs.Gathered;
 use crate::Gather;
 use items::Judged;
@@ -18,7 +19,7 @@ use members::finding::opens;
 use members::finding::part;
 use members::judging::group_truth;
 use members::judging::truth_group;
-use members::stepping::step_group;
+use stepping::step_group;
 use tables::Laid;
 use tables::Stand;
 
@@ -46,7 +47,7 @@ fn lay_group(
     room: usize,
 ) -> Laid
     requires { ⌜ Inside at s × (0 < s .rows) × (at ≤ room) × (room ≤ length (now work)) ⌝ }
-    requires { ⌜ Gathered.Suits gather (s .width) room (now doc) rows (now from) (now to) ⌝ }
+    requires { ⌜ Gathered.Asks gather (s .width) room (now doc) rows (now from) (now to) ⌝ }
     ensures { λ r. ⌜ Owes room at 2
         (Gathered.made gather (worldOf (catalogueOf (now (doc .entry)) rows)) (tableAt (now (work .entry)) s)
         (inFront (tableAt (now (work .entry)) s) (Gathered.columnOf gather)))
@@ -74,7 +75,7 @@ fn turn(
     room: usize,
 ) -> Laid
     requires { ⌜ Inside at s × (i < s .rows) × (at ≤ room) × (room ≤ length (now work)) ⌝ }
-    requires { ⌜ Gathered.Suits gather (s .width) room (now doc) rows (now from) (now to) ⌝ }
+    requires { ⌜ Gathered.Asks gather (s .width) room (now doc) rows (now from) (now to) ⌝ }
     requires { ⌜ up ≡ climbs (column (tableAt (now work) s) (Gathered.columnOf gather)) ⌝ }
     ensures { λ r. ⌜ Owes room at 2
         (Gathered.turn gather (worldOf (catalogueOf (now (doc .entry)) rows)) (tableAt (now (work .entry)) s) i)
@@ -88,9 +89,9 @@ fn turn(
     lay_group(doc, rows, gather, work, group, from, to, at, room)
 }
 
-// What is made of every group, by first appearance, where it fails for none. `up` says whether the groups' column climbs:
-// each row is then looked at a few times, else it is set against the rows above and, where it opens a group, those below. A
-// step costs each group the catalogue's rows, too.
+// What is made of every group, by first appearance, where it fails for none. `up` says whether the groups' column
+// climbs: each row is then looked at a few times, else it is set against the rows above and, where it opens a group,
+// those below. A step costs each group the catalogue's rows, too.
 pub fn each_group(
     doc: &[u8],
     rows: usize,
@@ -104,7 +105,7 @@ pub fn each_group(
     room: usize,
 ) -> Laid
     requires { ⌜ Inside at s × (at ≤ room) × (room ≤ length (now work)) ⌝ }
-    requires { ⌜ Gathered.Suits gather (s .width) room (now doc) rows (now from) (now to) ⌝ }
+    requires { ⌜ Gathered.Asks gather (s .width) room (now doc) rows (now from) (now to) ⌝ }
     requires { ⌜ up ≡ climbs (column (tableAt (now work) s) (Gathered.columnOf gather)) ⌝ }
     requires { ⌜ Settled (Gathered.whole gather (worldOf (catalogueOf (now doc) rows)) (tableAt (now work) s)) ⌝ }
     ensures { λ r. ⌜ Owes room at 2

@@ -1,4 +1,5 @@
-// The operators that go by groups, RC, RE and RX: a group is the rows that hold one cell. Groups come by first appearance.
+// The operators that go by groups, RC, RE and RX: a group is the rows that hold one cell. Groups come by first
+// appearance.
 pub mod each;
 
 ghost use mathlib.Core.Path.{_≡_};
@@ -8,7 +9,7 @@ ghost use Rattle.laws.specs.Attempt.{gives};
 ghost use Rattle.meaning.specs.Catalogue.{catalogueOf};
 ghost use Rattle.meaning.specs.Operators;
 ghost use Rattle.meaning.specs.World.{worldOf};
-ghost use Rattle.steps.specs.Marks.{Ready};
+ghost use Rattle.axes.specs.Steps.{Ready};
 ghost use Rattle.tables.specs.Layout.{tableAt, Inside, Owes};
 use cells::Axis;
 use cells::Test;
@@ -22,14 +23,14 @@ pub enum Gather {
     Step(Axis, Test),
 }
 
-// RC: each cell of column c with how many rows hold it. Few looks at each row where the column climbs; else at most each row
-// against each other, twice. It has no use for a catalogue or for marks.
+// RC: each cell of column c with how many rows hold it. Few looks at each row where the column climbs; else at most
+// each row against each other, twice. It has no use for a catalogue or for marks.
 pub fn counts(work: &mut [i64], s: Stand, c: usize, at: usize, room: usize) -> Laid
     requires { ⌜ Inside at s × (at ≤ room) × (room ≤ length (now work)) × (room ≤ 65536) × (c < s .width) ⌝ }
     ensures { λ r. ⌜ Owes room at 2 (gives (Operators.counts (tableAt (now (work .entry)) s) c))
         (now (work .entry)) (now (work .exit)) r ⌝ }
 {
-    let up = members::finding::climbs(work, s, c);
+    let up = tables::order::climbs(work, s, c);
     let doc = [0; 1];
     let mut from = [false; 1];
     let mut to = [false; 1];
@@ -47,8 +48,8 @@ pub fn counts(work: &mut [i64], s: Stand, c: usize, at: usize, room: usize) -> L
     )
 }
 
-// RE: each cell of column 0 with the truth of its group's items. Failing comes before room. Few looks at each row where the
-// column climbs; else at most each row against each other, a few times. It has no use for marks.
+// RE: each cell of column 0 with the truth of its group's items. Failing comes before room. Few looks at each row
+// where the column climbs; else at most each row against each other, a few times. It has no use for marks.
 pub fn truths(doc: &[u8], rows: usize, work: &mut [i64], s: Stand, at: usize, room: usize) -> Laid
     requires { ⌜ Inside at s × (at ≤ room) × (room ≤ length (now work)) × (10 * rows ≤ length (now doc))
         × (s .width ≡ 3) ⌝ }
@@ -56,7 +57,7 @@ pub fn truths(doc: &[u8], rows: usize, work: &mut [i64], s: Stand, at: usize, ro
         (Operators.truths (worldOf (catalogueOf (now (doc .entry)) rows)) (tableAt (now (work .entry)) s))
         (now (work .entry)) (now (work .exit)) r ⌝ }
 {
-    let up = members::finding::climbs(work, s, 0);
+    let up = tables::order::climbs(work, s, 0);
     if !each::settles(work, s, up) {
         return Laid::Fails;
     }
@@ -76,9 +77,9 @@ pub fn truths(doc: &[u8], rows: usize, work: &mut [i64], s: Stand, at: usize, ro
     )
 }
 
-// RX: per different cell of column 0 the nodes of a step from its nodes in column 1, each once, by rising rank. Failing comes
-// before room. Each group costs the catalogue's rows; few looks at each row where column 0 climbs, else at most each row
-// against each other, twice.
+// RX: per different cell of column 0 the nodes of a step from its nodes in column 1, each once, by rising rank.
+// Failing comes before room. Each group costs the catalogue's rows; few looks at each row where column 0 climbs, else
+// at most each row against each other, twice.
 pub fn steps(
     doc: &[u8],
     rows: usize,
@@ -97,10 +98,10 @@ pub fn steps(
         (Operators.steps (worldOf (catalogueOf (now (doc .entry)) rows)) axis test (tableAt (now (work .entry)) s))
         (now (work .entry)) (now (work .exit)) r ⌝ }
 {
-    if !members::stepping::all_nodes(work, s, rows) {
+    if !stepping::all_nodes(work, s, rows) {
         return Laid::Fails;
     }
-    let up = members::finding::climbs(work, s, 0);
+    let up = tables::order::climbs(work, s, 0);
     each::each_group(
         doc,
         rows,

@@ -1,11 +1,8 @@
 -- Rows joined one after another (RJ).
---     joinedRow xs u c d r     row r joined with each row of the table at u whose column d holds the cell of r's column c
 --     join-each                RJ does so for each row
 --     joined-laid              it makes of a row what it made before rows were laid behind
 --     joined-part              a part that narrows the table joins alike
---     inside-up                a table that stands below a cell stands below a later one
 --     part-inside              that part stands where the table stands
---     table-below              a table stands as it did before rows were laid behind
 use Prim.Native.Nat.{ℕ, _+_, _-_, _*_, _≤_}
 use mathlib.Core.Path.{_≡_, sym, ap, ap₂, _∙_}
 use mathlib.Core.List.{List, _++_, map}
@@ -16,48 +13,39 @@ use lib.ListN.{length}
 use Rattle.cells.specs.Cell.{same}
 use Rattle.laws.specs.Lists.{filter}
 use Rattle.laws.specs.Rows.{row, rowsAt, laid}
-use Rattle.laws.proofs.Rows.{row-laid, rowsAt-laid}
+use Rattle.laws.proofs.Rows.{row-laid}
 use Rattle.laws.specs.Attempt.{Attempt, gives, each}
 use Rattle.meaning.specs.Operators.{Row, Table, cell, join}
 use Rattle.tables.specs.declared.Stand.{Stand}
 use Rattle.tables.specs.Layout.{tableAt, Inside}
-use Rattle.tables.specs.Tasks.{Settled}
-use Rattle.tables.proofs.Operators.{each-gather}
+use Rattle.tables.specs.Laying.{Settled}
+use Rattle.laws.proofs.Filters.{each-gather}
+use Rattle.tables.proofs.Standing.{table-below}
 use Rattle.joining.specs.declared.Part.{Part}
+use Rattle.joining.specs.Joined.{joinedRow}
 use Rattle.joining.specs.Narrowed.{Narrows}
-
-unfoldable pub joinedRow : List ℤ → Stand → ℕ → ℕ → Row → Attempt Table
-joinedRow xs u c d r = gives (map (λ (q : Row). r ++ q) (filter (λ (q : Row). same (cell r c) (cell q d)) (tableAt xs u)))
 
 module _ (xs : List ℤ) (u : Stand) (c d : ℕ) (t : Table) where
   pub join-each : gives (join t c (tableAt xs u) d) ≡ each (joinedRow xs u c d) t
   unfolding joinedRow join
   join-each =
       sym
-      (each-gather (λ (r : Row). map (λ (q : Row). r ++ q) (filter (λ (q : Row). same (cell r c) (cell q d)) (tableAt xs u))) t)
+      (each-gather (λ (r : Row). map (λ (q : Row). r ++ q)
+      (filter (λ (q : Row). same (cell r c) (cell q d)) (tableAt xs u))) t)
 
   pub join-settled : Settled (each (joinedRow xs u c d) t)
   unfolding Settled
   join-settled = (join t c (tableAt xs u) d, sym join-each)
 
 module _ (xs ys : List ℤ) (at : ℕ) (vs : List ℤ) (over : ys ≡ laid xs at vs) (inside : at ≤ length xs) where
-  pub table-below : (u : Stand) → Inside at u → tableAt ys u ≡ tableAt xs u
-  unfolding tableAt Inside
-  table-below u h =
-      ap (λ (l : List ℤ). rowsAt l (u .at) (u .rows) (u .width)) over
-      ∙ rowsAt-laid xs at vs (u .at) (u .rows) (u .width) h inside
-
   pub joined-laid : (u : Stand) (c d a w : ℕ) → a + w ≤ at → Inside at u
       → joinedRow xs u c d (row xs a w) ≡ joinedRow ys u c d (row ys a w)
   unfolding joinedRow
   joined-laid u c d a w h k =
-      ap₂ (λ (t : Table) (r : Row). gives (map (λ (q : Row). r ++ q) (filter (λ (q : Row). same (cell r c) (cell q d)) t)))
-      (sym (table-below u k))
+      ap₂ (λ (t : Table) (r : Row). gives (map (λ (q : Row). r ++ q)
+      (filter (λ (q : Row). same (cell r c) (cell q d)) t)))
+      (sym (table-below xs ys at vs over inside u k))
       (sym (row-laid xs at vs a w h inside) ∙ ap (λ (l : List ℤ). row l a w) (sym over))
-
-pub inside-up : (low top : ℕ) (u : Stand) → low ≤ top → Inside low u → Inside top u
-unfolding Inside
-inside-up low top u h k = omega arith
 
 module _ (a n w lo hi top : ℕ) (h : lo ≤ hi) (k : hi ≤ n) (l : a + n * w ≤ top) where
   pub part-inside : a + lo * w + (hi - lo) * w ≤ top

@@ -1,3 +1,4 @@
-pub mod Climbing
+pub mod Joined
+pub mod Passing
 pub mod Narrowing
 pub mod Joining

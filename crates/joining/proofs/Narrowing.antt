@@ -4,26 +4,28 @@
 --     narrows-part        so are the rows between those that are before x and those that are after it
 --     narrows-cell        .. for an equal cell
 use Prim.Native.Nat.{ℕ, zero, suc, _+_, _-_, _*_, _≤_, _<_}
-use mathlib.Core.Path.{_≡_, refl, sym, ap, ap₂, _∙_, subst}
+use mathlib.Core.Path.{_≡_, sym, ap, ap₂, _∙_, subst}
 use mathlib.Core.List.{List, _∷_, _++_, append-nil}
-use mathlib.Core.Bool.{Bool, true, false, not, true≢false}
+use mathlib.Core.Bool.{Bool, true, false}
 use native.Mathlib.Omega.{arith}
 use native.Mathlib.Nat.{suc-mul, zero-mul, add-mul}
 use lib.IntN.{ℤ, pos}
+use borrow.Author.Tests.{not-false}
 use lib.ListN.{getD}
 use Rattle.cells.specs.Cell.{same, before}
 use Rattle.cells.proofs.Cells.{before-other, same-sym}
 use Rattle.laws.specs.Lists.{filter}
 use Rattle.laws.specs.Rows.{row, rowsAt}
-use Rattle.laws.proofs.Lists.{All, filter-none}
+use Rattle.laws.proofs.Rows.{length-rowsAt}
+use Rattle.laws.specs.Lists.{All}
+use Rattle.laws.proofs.Lists.{filter-none}
 use Rattle.laws.proofs.Filters.{filter-append}
 use Rattle.meaning.specs.Operators.{Row, cell, column}
 use Rattle.tables.specs.declared.Stand.{Stand}
 use Rattle.tables.specs.Layout.{tableAt}
-use Rattle.tables.proofs.Columns.{cell-read}
+use Rattle.tables.proofs.Reading.{cell-read, column-at, length-column}
 use Rattle.joining.specs.declared.Part.{Part}
 use Rattle.joining.specs.Narrowed.{passed, Front, Back, Narrows}
-use Rattle.joining.proofs.Climbing.{column-at, length-column}
 
 module _ (xs : List ℤ) (w : ℕ) where
   rows-split : (a m n : ℕ) → rowsAt xs a (m + n) w ≡ rowsAt xs a m w ++ rowsAt xs (a + m * w) n w
@@ -60,11 +62,7 @@ module _ (x : ℤ) where
 
   after-not : (z : ℤ) → passed true x z ≡ false → same x z ≡ false
   unfolding passed
-  after-not z e = before-other x z (is-true (before x z) e)
-    where
-      is-true : (t : Bool) → not t ≡ false → t ≡ true
-      is-true true e = refl
-      is-true false e = absurd (true≢false e)
+  after-not z e = before-other x z (not-false (before x z) e)
 
 module _ (xs : List ℤ) (a n w d : ℕ) (x : ℤ) (inside : d < w) where
   -- a row's cell, as the column has it
@@ -89,7 +87,8 @@ module _ (xs : List ℤ) (a n w d : ℕ) (x : ℤ) (inside : d < w) where
       at-row i k =
           ap (λ (b : ℕ). same x (cell (row xs b w) d)) (further i)
           ∙ ap (same x) (cell-in (m + i) (omega arith))
-          ∙ after-not x _ (f (m + i) (omega arith) (omega (arith, length-column xs a n w d)))
+          ∙ after-not x _ (f (m + i) (omega arith)
+          (omega (arith, length-column (rowsAt xs a n w) d, length-rowsAt xs a n w)))
 
   between-alike : (lo hi : ℕ) → lo ≤ hi → hi ≤ n
       → Front false x (column (rowsAt xs a n w) d) lo → Back true x (column (rowsAt xs a n w) d) hi

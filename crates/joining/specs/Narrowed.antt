@@ -1,13 +1,12 @@
 -- The part of a table that a row can join with, where the table's column climbs (document 01, 'Plan operators', RJ).
---     climbs zs              each cell of zs is equal to or before the next
 --     passed equal x z       cell z stands before x; where `equal` is true, before it or equal to it
 --     Front equal x zs n     the first n cells of zs are passed
 --     Back equal x zs n      the cells of zs from n on are not
 --     Narrows xs u d x p     p is a part of the rows of u that has every row whose column d holds x
 use Prim.Native.Nat.{ℕ, _+_, _-_, _*_, _≤_, _<_}
 use mathlib.Core.Path.{_≡_}
-use mathlib.Core.List.{List, [], _∷_}
-use mathlib.Core.Bool.{Bool, true, false, not, _&&_}
+use mathlib.Core.List.{List}
+use mathlib.Core.Bool.{Bool, true, false, not}
 use lib.IntN.{ℤ, pos}
 use lib.ListN.{length, getD}
 use Rattle.cells.specs.Cell.{same, before}
@@ -17,11 +16,6 @@ use Rattle.meaning.specs.Operators.{Row, cell}
 use Rattle.tables.specs.declared.Stand.{Stand}
 use Rattle.tables.specs.Layout.{tableAt}
 use Rattle.joining.specs.declared.Part.{Part}
-
-unfoldable pub climbs : List ℤ → Bool
-climbs [] = true
-climbs (x ∷ []) = true
-climbs (x ∷ y ∷ ys) = not (before y x) && climbs (y ∷ ys)
 
 unfoldable pub passed : Bool → ℤ → ℤ → Bool
 passed false x z = before z x

@@ -1,8 +1,8 @@
-// The operator RJ: for each row of a table, each row of the other that holds an equal cell. Where the other's column climbs,
-// a row looks only at the part of it that can join.
+// The operator RJ: for each row of a table, each row of the other that holds an equal cell. Where the other's column
+// climbs, a row looks only at the part of it that can join.
+pub mod pairs;
 mod search;
 
-ghost use mathlib.Core.Path.{_≡_};
 ghost use mathlib.Core.List.{_++_, map};
 ghost use Prim.Native.Nat.{_+_, _*_, _≤_, _<_};
 ghost use lib.ListN.{length};
@@ -13,33 +13,15 @@ ghost use Rattle.laws.specs.Attempt.{gives};
 ghost use Rattle.meaning.specs.Operators;
 ghost use Rattle.meaning.specs.Operators.{Row, cell};
 ghost use Rattle.tables.specs.Layout.{tableAt, Inside, Owes};
-ghost use Rattle.joining.specs.Narrowed;
 ghost use Rattle.joining.specs.Narrowed.{Narrows};
 use tables::Laid;
 use tables::Stand;
+use tables::order::climbs;
 
 // A part of a table's rows: its first row, and the row that it ends before.
 pub struct Part {
     pub start: usize,
     pub end: usize,
-}
-
-// Whether each cell of column c is equal to or before the one below it. Each row is looked at once.
-pub fn climbs(work: &[i64], s: Stand, c: usize) -> bool
-    requires { ⌜ Inside (length (now work)) s × (c < s .width) ⌝ }
-    ensures { λ r. ⌜ r ≡ Narrowed.climbs (Operators.column (tableAt (now (work .entry)) s) c) ⌝ }
-{
-    let w = s.width;
-    let mut a = s.at;
-    let mut left = s.rows;
-    while 1 < left {
-        if cells::before(work[a + w + c], work[a + c]) {
-            return false;
-        }
-        a += w;
-        left -= 1;
-    }
-    true
 }
 
 // The row at a joined with each row of u that has an equal cell, where all those stand in the part.
@@ -71,12 +53,12 @@ fn join_part(
         rows: end - start,
         width: v,
     };
-    tables::join::join_row(work, a, w, c, s, d, at, room)
+    pairs::join_row(work, a, w, c, s, d, at, room)
 }
 
-// RJ of two tables, laid at `at`. It never fails. Where u's column climbs, a row of s takes the logarithm of how far its part of
-// u lies from that of the row before, and then the rows of that part, so that two rising columns are gone through about once;
-// else every row of s looks at every row of u.
+// RJ of two tables, laid at `at`. It never fails. Where u's column climbs, a row of s takes the logarithm of how far
+// its part of u lies from that of the row before, and then the rows of that part, so that two rising columns are gone
+// through about once; else every row of s looks at every row of u.
 pub fn join(
     work: &mut [i64],
     s: Stand,

@@ -6,7 +6,8 @@ ghost use lib.IntN.{pos};
 ghost use lib.ListN.{length, getD};
 ghost use Rattle.meaning.specs.Operators.{column};
 ghost use Rattle.tables.specs.Layout.{tableAt, Inside};
-ghost use Rattle.joining.specs.Narrowed.{climbs, passed, Front, Back, Narrows};
+ghost use Rattle.joining.specs.Narrowed.{passed, Front, Back, Narrows};
+ghost use Rattle.tables.specs.Order.{climbs};
 use crate::Part;
 use tables::Stand;
 
@@ -39,12 +40,13 @@ fn longer(step: usize) -> usize {
     if step < 65536 { 2 * step + 1 } else { step }
 }
 
-// Where the rows that are passed end, between `from` and `to`: steps that grow until one goes too far, then halves. The turns
-// are about twice the logarithm of how far from `from` the answer is.
+// Where the rows that are passed end, between `from` and `to`: steps that grow until one goes too far, then halves.
+// The turns are about twice the logarithm of how far from `from` the answer is.
 fn search(work: &[i64], u: Stand, d: usize, x: i64, equal: bool, from: usize, to: usize) -> usize
     requires { ⌜ Inside (length (now work)) u × (d < u .width) × (from ≤ to) × (to ≤ u .rows) ⌝ }
     requires { ⌜ climbs (column (tableAt (now work) u) d) ≡ true ⌝ }
-    requires { ⌜ Front equal x (column (tableAt (now work) u) d) from × Back equal x (column (tableAt (now work) u) d) to ⌝ }
+    requires { ⌜ Front equal x (column (tableAt (now work) u) d) from
+        × Back equal x (column (tableAt (now work) u) d) to ⌝ }
     ensures { λ r. ⌜ (from ≤ r) × (r ≤ to) ⌝ }
     ensures { λ r. ⌜ Front equal x (column (tableAt (now (work .entry)) u) d) r
         × Back equal x (column (tableAt (now (work .entry)) u) d) r ⌝ }
@@ -81,7 +83,8 @@ fn first(work: &[i64], u: Stand, d: usize, x: i64, from: usize) -> usize
     search(work, u, d, x, false, 0, above)
 }
 
-// The part of u whose column d holds x, where that column climbs; else all of u. The part is looked for from the row `from` on.
+// The part of u whose column d holds x, where that column climbs; else all of u. The part is looked for from the row
+// `from` on.
 pub fn part(work: &[i64], u: Stand, d: usize, x: i64, climbing: bool, from: usize) -> Part
     requires { ⌜ Inside (length (now work)) u × (d < u .width) × (from ≤ u .rows) ⌝ }
     requires { ⌜ climbing ≡ climbs (column (tableAt (now work) u) d) ⌝ }

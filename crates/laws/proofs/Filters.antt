@@ -5,13 +5,15 @@
 --     filter-comm              two filters in either order
 --     count-filter, count-all  counting what passes
 --     gather-each, gather-map, map-gather ..     gather against map
+--     each-map, each-filter, each-gather     attempts that never fail: one result for each, those that pass, any number
 --     heads, tails, no-cons    equal lists taken apart
 use mathlib.Core.Path.{_≡_, refl, sym, ap, _∙_, subst}
 use mathlib.Core.Logic.{inl, inr}
 use mathlib.Core.List.{List, [], _∷_, _++_, map}
-use mathlib.Core.Bool.{Bool, true, false}
+use mathlib.Core.Bool.{Bool, true, false, cond, true≢false}
 use lib.ListN.{length}
 use Rattle.laws.specs.Lists.{filter, count, gather, All, In}
+use Rattle.laws.specs.Attempt.{gives, attempt, each}
 use Rattle.laws.proofs.Booleans.{by-cases, clash}
 use Rattle.laws.proofs.Lists.{all-passed}
 
@@ -132,6 +134,27 @@ module _ {A B : Type 0} where
   pub all-unmapped : (P : B → Type 0) (f : A → B) (xs : List A) → All P (map f xs) → All (λ x. P (f x)) xs
   all-unmapped P f [] h = tt
   all-unmapped P f (x ∷ xs) h = (h .0, all-unmapped P f xs (h .1))
+
+  -- attempts that never fail
+  pub each-map : (h : A → B) (xs : List A) → each (λ x. gives (h x ∷ [])) xs ≡ gives (map h xs)
+  unfolding each attempt
+  each-map h [] = refl
+  each-map h (x ∷ xs) = rw (each-map h xs)
+
+  pub each-gather : (g : A → List B) (xs : List A) → each (λ x. gives (g x)) xs ≡ gives (gather g xs)
+  unfolding each attempt gather
+  each-gather g [] = refl
+  each-gather g (x ∷ xs) = rw (each-gather g xs)
+
+pub each-filter : {A : Type 0} (p : A → Bool) (xs : List A)
+    → each (λ x. gives (cond (p x) (x ∷ []) [])) xs ≡ gives (filter p xs)
+unfolding each attempt filter
+each-filter p [] = refl
+each-filter p (x ∷ xs) = rw (each-filter p xs) (by-test (p x))
+  where
+    by-test : (b : Bool) → gives (cond b (x ∷ []) [] ++ filter p xs) ≡ gives (cond b (x ∷ filter p xs) (filter p xs))
+    by-test true = refl
+    by-test false = refl
 
 -- equal lists, taken apart
 module _ {A : Type 0} where

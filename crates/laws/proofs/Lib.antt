@@ -1,6 +1,7 @@
 pub mod Booleans
 pub mod Lists
 pub mod Rows
+pub mod Places
 pub mod Filters
 pub mod Sorting
 pub mod Numbering

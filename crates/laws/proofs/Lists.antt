@@ -1,12 +1,18 @@
 -- Laws of what is true of every member of a list, and of every two.
 --     all-..           All of what the functions on lists make
+--     all-getD, all-at what is true of every member is true of the one at an index; a test that all pass, too
 --     rising-..        Rising of what the functions on lists make
-use Prim.Native.Nat.{ℕ, zero, suc, _<_}
+--     length-below     there are n numbers below n
+--     byte-few         a flag counts for one at most
+use Prim.Native.Nat.{ℕ, zero, suc, _≤_, _<_}
 use mathlib.Core.Path.{_≡_, refl}
 use mathlib.Core.List.{List, [], _∷_, _++_, map}
-use mathlib.Core.Bool.{Bool, true, false, cond}
+use mathlib.Core.Bool.{Bool, true, false, cond, _&&_}
 use native.Mathlib.Omega.{arith}
-use Rattle.laws.specs.Lists.{filter, below, All, Rising}
+use mir.Val.{boolByte}
+use lib.ListN.{length, getD, length-append}
+use Rattle.laws.specs.Lists.{filter, all, below, All, Rising}
+use Rattle.laws.proofs.Booleans.{both-true}
 
 module _ {A : Type 0} where
   pub all-map : {P Q : A → Type 0} (xs : List A) → ((x : A) → P x → Q x) → All P xs → All Q xs
@@ -24,6 +30,17 @@ module _ {A : Type 0} where
   pub all-append : (P : A → Type 0) (xs ys : List A) → All P xs → All P ys → All P (xs ++ ys)
   all-append P [] ys h k = k
   all-append P (x ∷ xs) ys h k = (h .0, all-append P xs ys (h .1) k)
+
+  pub all-getD : (P : A → Type 0) (xs : List A) (i : ℕ) (d : A) → All P xs → i < length xs → P (getD xs i d)
+  all-getD P [] i d h k = absurd (omega arith)
+  all-getD P (x ∷ xs) zero d h k = h .0
+  all-getD P (x ∷ xs) (suc i) d h k = all-getD P xs i d (h .1) (omega arith)
+
+  pub all-at : (p : A → Bool) (xs : List A) (i : ℕ) (d : A) → all p xs ≡ true → i < length xs → p (getD xs i d) ≡ true
+  unfolding all
+  all-at p [] i d e h = absurd (omega arith)
+  all-at p (x ∷ xs) zero d e h = both-true (p x) (all p xs) e .0
+  all-at p (x ∷ xs) (suc i) d e h = all-at p xs i d (both-true (p x) (all p xs) e .1) (omega arith)
 
   pub rising-map : {R S : A → A → Type 0} (xs : List A) → ((x y : A) → R x y → S x y) → Rising R xs → Rising S xs
   rising-map [] f h = tt
@@ -92,3 +109,12 @@ pub rising-below : (n : ℕ) → Rising (λ i k. i < k) (below n)
 unfolding below
 rising-below zero = tt
 rising-below (suc n) = rising-last (λ i k. i < k) (below n) n (rising-below n) (all-below n)
+
+pub length-below : (n : ℕ) → length (below n) ≡ n
+unfolding below
+length-below zero = refl
+length-below (suc n) = simp length-append (omega (arith, length-below n))
+
+pub byte-few : (b : Bool) → boolByte b ≤ 1
+byte-few true = omega arith
+byte-few false = omega arith

@@ -22,15 +22,17 @@ use Rattle.laws.proofs.Booleans.{by-cases}
 use Rattle.laws.proofs.Merging.{length-sort}
 use Rattle.meaning.specs.World.{truth, truthFrom}
 use Rattle.meaning.specs.Operators.{Row, Table, cell, column, rising, groupOf, itemsInOrder}
-use Rattle.members.specs.Grouped.{cellAt, inFront, least}
-use Rattle.members.proofs.Reading.{getD-column, length-column}
+use Rattle.members.specs.Grouped.{inFront, least}
+use Rattle.tables.specs.Order.{cellAt}
+use Rattle.tables.proofs.Reading.{getD-column, length-column}
 use Rattle.members.proofs.Members.{group-yes, group-no, group-none, group-front}
 
 module _ (t : Table) (x : ℤ) (i best next : ℕ)
     (e : next ≡ cond (same x (cellAt t 0 i)) (cond (before (cellAt t 1 i) (cellAt t 1 best)) i best) best) where
   -- row i is of the group, or it is not
   pub least-more :
-      i < length t → least (getD t best []) (groupOf (drop i t) 0 x) ≡ least (getD t next []) (groupOf (drop (i + 1) t) 0 x)
+      i < length t → least (getD t best []) (groupOf (drop i t) 0 x)
+      ≡ least (getD t next []) (groupOf (drop (i + 1) t) 0 x)
   unfolding least
   least-more h =
       by-cases (same x (cellAt t 0 i))

@@ -1,6 +1,4 @@
-pub mod Reading
-pub mod Climbing
+pub mod Opening
 pub mod Parts
 pub mod Members
 pub mod Least
-pub mod Nodes

@@ -23,7 +23,8 @@ use Rattle.tables.specs.declared.Laid.{Laid}
 use Rattle.tables.specs.declared.Laid.the-variants.{Rows, Full, Fails}
 use Rattle.tables.specs.Layout.{Owes}
 use Rattle.tables.proofs.Promise.{owes-is, one-full, one-laid}
-use Rattle.members.specs.Grouped.{cellAt, inFront}
+use Rattle.members.specs.Grouped.{inFront}
+use Rattle.tables.specs.Order.{cellAt}
 
 module _ (t : Table) (c : ℕ) (x : ℤ) (i : ℕ) where
   group-split :
@@ -53,7 +54,8 @@ module _ (t : Table) (c : ℕ) (x : ℤ) (i : ℕ) where
 
   -- one row more is counted
   pub counted-more :
-      (n whole : ℕ) (b : Bool) → i < length t → b ≡ same x (cellAt t c i) → n + length (groupOf (drop i t) c x) ≡ whole →
+      (n whole : ℕ) (b : Bool) → i < length t → b ≡ same x (cellAt t c i)
+      → n + length (groupOf (drop i t) c x) ≡ whole →
       n + boolByte b + length (groupOf (drop (i + 1) t) c x) ≡ whole
   counted-more n whole b h e d = go b e
     where
@@ -63,10 +65,6 @@ module _ (t : Table) (c : ℕ) (x : ℤ) (i : ℕ) where
 
   pub counted-end : (n whole : ℕ) → length t ≤ i → n + length (groupOf (drop i t) c x) ≡ whole → n ≡ whole
   counted-end n whole h d = omega (arith, ap length (group-none h))
-
-pub byte-few : (b : Bool) → boolByte b ≤ 1
-byte-few true = omega arith
-byte-few false = omega arith
 
 pub group-front :
     (t : Table) (c : ℕ) → 0 < length t →
@@ -94,7 +92,9 @@ pair-is room at x y v w xs ys o d e h =
 
 -- rows that stand on something that is worked out first
 module _ {A : Type 0} (room at w : ℕ) (o : Attempt A) (g : A → Attempt Table) (xs : List ℤ) where
-  pub owes-given : (a : A) (ys : List ℤ) (l : Laid) → o ≡ gives a → Owes room at w (g a) xs ys l → Owes room at w (attempt o g) xs ys l
+  pub owes-given :
+      (a : A) (ys : List ℤ) (l : Laid) → o ≡ gives a → Owes room at w (g a) xs ys l
+      → Owes room at w (attempt o g) xs ys l
   unfolding attempt
   owes-given a ys l e h = owes-is room at w xs ys l (ap (λ (p : Attempt A). attempt p g) e) h
 

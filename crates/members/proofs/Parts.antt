@@ -12,18 +12,21 @@ use native.Mathlib.Nat.{add-zero, add-mul, mul-le-mul-right}
 use lib.IntN.{ℤ, pos}
 use lib.ListN.{length, getD, take, drop, take-append-drop, length-drop, drop-of-length-le}
 use lib.Seq.{drop-cons, getD-drop, getD-take, take-all}
+use borrow.Author.Tests.{not-true}
 use Rattle.cells.specs.Cell.{same, before}
 use Rattle.cells.proofs.Cells.{same-eq, same-refl, neither-same, before-irrefl}
 use Rattle.laws.specs.Lists.{filter, any}
-use Rattle.laws.proofs.Lists.{All, all-map, filter-none}
+use Rattle.laws.specs.Lists.{All}
+use Rattle.laws.proofs.Lists.{all-map, filter-none}
 use Rattle.laws.proofs.Filters.{filter-append, all-unmapped}
 use Rattle.laws.proofs.Booleans.{by-cases, clash}
 use Rattle.meaning.specs.Operators.{Row, Table, cell, column, groupOf}
 use Rattle.tables.specs.declared.Stand.{Stand}
 use Rattle.tables.specs.Layout.{tableAt}
-use Rattle.members.specs.Grouped.{cellAt, inFront, climbs, opening, leading}
-use Rattle.members.proofs.Reading.{length-table, length-column, getD-column, column-drop, column-take, table-part}
-use Rattle.members.proofs.Climbing.{not-is, climbs-low, climbs-tail, climbs-drop}
+use Rattle.members.specs.Grouped.{inFront, opening, leading}
+use Rattle.tables.specs.Order.{cellAt, climbs}
+use Rattle.tables.proofs.Reading.{length-table, length-column, getD-column, column-drop, column-take, table-part}
+use Rattle.tables.proofs.Climbing.{climbs-low, climbs-tail, climbs-drop}
 
 none-group : (t : Table) (c : ℕ) (x : ℤ) → any (same x) (column t c) ≡ false → groupOf t c x ≡ []
 unfolding groupOf filter any column
@@ -39,7 +42,7 @@ unfolding opening groupOf
 opening-group t c i e =
     let x = cellAt t c i in
     let none : groupOf (take i t) c x ≡ [] =
-    none-group (take i t) c x (ap (any (same x)) (column-take t c i) ∙ not-is _ e) in
+    none-group (take i t) c x (ap (any (same x)) (column-take t c i) ∙ not-true _ e) in
     sym
     (ap (λ (u : Table). groupOf u c x) (sym (take-append-drop i t))
     ∙ filter-append (λ (r : Row). same x (cell r c)) (take i t) (drop i t)
@@ -167,7 +170,8 @@ module _ (xs : List ℤ) (s : Stand) (c i : ℕ) (inside : i < s .rows) where
     -- where the column climbs, the rows from row i on that hold its cell
     pub run-has :
         (n : ℕ) → climbs (column t c) ≡ true → n ≤ s .rows - i →
-        n ≡ leading (same (inFront (tableAt xs (from s i (s .rows - i))) c)) (column (tableAt xs (from s i (s .rows - i))) c) →
+        n ≡ leading (same (inFront (tableAt xs (from s i (s .rows - i))) c))
+        (column (tableAt xs (from s i (s .rows - i))) c) →
         Has xs s c i (from s i n)
     run-has n up h d =
         let u = drop i t in

@@ -1,29 +1,20 @@
 -- Groups by first appearance (document 01, 'Plan operators', RC, RE and RX), as a pass over the rows meets them.
---     cellAt t c i       column c of row i
---     climbs xs          no cell of xs stands before the one in front of it
 --     opening t c i      row i opens a group: its cell of column c stands in no row above
 --     leading p xs       how many members of xs pass p before the first that does not
 --     least r rs         of r and the rows rs the one with the least column 1, the earliest of these
 --     inFront t c        column c of the first row: the cell of the group that a part of a table is looked through for
 use Prim.Native.Nat.{ℕ, zero, suc}
 use mathlib.Core.List.{List, [], _∷_}
-use mathlib.Core.Bool.{Bool, true, not, cond, _&&_}
+use mathlib.Core.Bool.{Bool, not, cond}
 use lib.IntN.{ℤ}
-use lib.ListN.{getD, take}
+use lib.ListN.{take}
 use Rattle.cells.specs.Cell.{same, before}
 use Rattle.laws.specs.Lists.{any}
 use Rattle.meaning.specs.Operators.{Row, Table, cell, column}
-
-abbrev pub cellAt : Table → ℕ → ℕ → ℤ
-cellAt t c i = cell (getD t i []) c
+use Rattle.tables.specs.Order.{cellAt}
 
 abbrev pub inFront : Table → ℕ → ℤ
 inFront t c = cellAt t c 0
-
-unfoldable pub climbs : List ℤ → Bool
-climbs [] = true
-climbs (x ∷ []) = true
-climbs (x ∷ y ∷ ys) = not (before y x) && climbs (y ∷ ys)
 
 unfoldable pub opening : Table → ℕ → ℕ → Bool
 opening t c i = not (any (same (cellAt t c i)) (take i (column t c)))

@@ -47,7 +47,8 @@ pub fn count_group(work: &mut [i64], s: Stand, c: usize, at: usize, room: usize)
     requires { ⌜ Inside at s × (0 < s .rows) × (at ≤ room) × (room ≤ length (now work)) ⌝ }
     requires { ⌜ (c < s .width) × (room ≤ 65536) ⌝ }
     ensures { λ r. ⌜ Owes room at 2 (gives ((inFront (tableAt (now (work .entry)) s) c
-        ∷ pos (length (groupOf (tableAt (now (work .entry)) s) c (inFront (tableAt (now (work .entry)) s) c))) ∷ []) ∷ []))
+        ∷ pos (length (groupOf (tableAt (now (work .entry)) s) c (inFront (tableAt (now (work .entry)) s) c))) ∷ [])
+        ∷ []))
         (now (work .entry)) (now (work .exit)) r ⌝ }
 {
     let x = cell_at(work, s, c, 0);

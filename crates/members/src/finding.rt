@@ -6,39 +6,25 @@ ghost use lib.ListN.{length};
 ghost use Rattle.cells.specs.Cell;
 ghost use Rattle.meaning.specs.Operators.{column, groupOf};
 ghost use Rattle.tables.specs.Layout.{tableAt, Inside};
+ghost use Rattle.tables.specs.Order;
 ghost use Rattle.members.specs.Grouped;
 use tables::Stand;
-use tables::once::occurs;
+use tables::order::occurs;
 
 // Column c of row i.
 pub fn cell_at(work: &[i64], s: Stand, c: usize, i: usize) -> i64
     requires { ⌜ Inside (length (now work)) s × (c < s .width) × (i < s .rows) ⌝ }
-    ensures { λ r. ⌜ r ≡ Grouped.cellAt (tableAt (now (work .entry)) s) c i ⌝ }
+    ensures { λ r. ⌜ r ≡ Order.cellAt (tableAt (now (work .entry)) s) c i ⌝ }
 {
     let a = s.at + i * s.width;
     work[a + c]
 }
 
-// Whether no cell of column c stands before the one above it. Each row is looked at once.
-pub fn climbs(work: &[i64], s: Stand, c: usize) -> bool
-    requires { ⌜ Inside (length (now work)) s × (c < s .width) ⌝ }
-    ensures { λ r. ⌜ r ≡ Grouped.climbs (column (tableAt (now (work .entry)) s) c) ⌝ }
-{
-    let mut i: usize = 1;
-    while i < s.rows {
-        if cells::before(cell_at(work, s, c, i), cell_at(work, s, c, i - 1)) {
-            return false;
-        }
-        i += 1;
-    }
-    true
-}
-
-// Whether row i opens a group: its cell of column c stands in no row above. Where the column climbs (`up`) only the row just
-// above is asked, else each of them.
+// Whether row i opens a group: its cell of column c stands in no row above. Where the column climbs (`up`) only the
+// row just above is asked, else each of them.
 pub fn opens(work: &[i64], s: Stand, c: usize, up: bool, i: usize) -> bool
     requires { ⌜ Inside (length (now work)) s × (c < s .width) × (i < s .rows) ⌝ }
-    requires { ⌜ up ≡ Grouped.climbs (column (tableAt (now work) s) c) ⌝ }
+    requires { ⌜ up ≡ Order.climbs (column (tableAt (now work) s) c) ⌝ }
     ensures { λ r. ⌜ r ≡ Grouped.opening (tableAt (now (work .entry)) s) c i ⌝ }
 {
     if i == 0 {
@@ -68,16 +54,16 @@ fn run(work: &[i64], s: Stand, c: usize) -> usize
     i
 }
 
-// The part of the table, from row i on, that has all rows of the group that row i opens: the rows that hold its cell, where
-// the column climbs, else all that are left.
+// The part of the table, from row i on, that has all rows of the group that row i opens: the rows that hold its cell,
+// where the column climbs, else all that are left.
 pub fn part(work: &[i64], s: Stand, c: usize, up: bool, i: usize) -> Stand
     requires { ⌜ Inside (length (now work)) s × (c < s .width) × (i < s .rows) ⌝ }
-    requires { ⌜ up ≡ Grouped.climbs (column (tableAt (now work) s) c) ⌝ }
+    requires { ⌜ up ≡ Order.climbs (column (tableAt (now work) s) c) ⌝ }
     requires { ⌜ Grouped.opening (tableAt (now work) s) c i ≡ true ⌝ }
     ensures { λ r. ⌜ (r .at + r .rows * r .width ≤ s .at + s .rows * s .width) × (r .width ≡ s .width) × (0 < r .rows)
-        × (Grouped.inFront (tableAt (now (work .entry)) r) c ≡ Grouped.cellAt (tableAt (now (work .entry)) s) c i)
-        × (groupOf (tableAt (now (work .entry)) r) c (Grouped.cellAt (tableAt (now (work .entry)) s) c i)
-        ≡ groupOf (tableAt (now (work .entry)) s) c (Grouped.cellAt (tableAt (now (work .entry)) s) c i)) ⌝ }
+        × (Grouped.inFront (tableAt (now (work .entry)) r) c ≡ Order.cellAt (tableAt (now (work .entry)) s) c i)
+        × (groupOf (tableAt (now (work .entry)) r) c (Order.cellAt (tableAt (now (work .entry)) s) c i)
+        ≡ groupOf (tableAt (now (work .entry)) s) c (Order.cellAt (tableAt (now (work .entry)) s) c i)) ⌝ }
 {
     let left = Stand {
         at: s.at + i * s.width,

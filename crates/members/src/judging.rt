@@ -10,7 +10,8 @@ ghost use Rattle.laws.specs.Attempt.{gives, attempt};
 ghost use Rattle.meaning.specs.Operators.{groupOf, itemsInOrder};
 ghost use Rattle.meaning.specs.World;
 ghost use Rattle.tables.specs.Layout.{tableAt, Inside, Owes};
-ghost use Rattle.members.specs.Grouped.{cellAt, inFront, least};
+ghost use Rattle.members.specs.Grouped.{inFront, least};
+ghost use Rattle.tables.specs.Order.{cellAt};
 use crate::counting::count_rows;
 use crate::counting::pair;
 use crate::finding::cell_at;
@@ -18,8 +19,8 @@ use items::Judged;
 use tables::Laid;
 use tables::Stand;
 
-// Of the rows `best` and i the one that comes first in the group of x: row i, where it is of the group and has the lesser
-// column 1.
+// Of the rows `best` and i the one that comes first in the group of x: row i, where it is of the group and has the
+// lesser column 1.
 fn better(work: &[i64], s: Stand, x: i64, best: usize, i: usize) -> usize
     requires { ⌜ Inside (length (now work)) s × (s .width ≡ 3) × (best < s .rows) × (i < s .rows) ⌝ }
     ensures { λ r. ⌜ r ≡ cond (Cell.same x (cellAt (tableAt (now (work .entry)) s) 0 i))

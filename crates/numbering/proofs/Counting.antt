@@ -16,9 +16,10 @@ use borrow.Author.Tests.{eq-eqb, ne-eqb}
 use Rattle.cells.specs.Cell.{same, before}
 use Rattle.cells.proofs.Cells.{same-refl, same-eq, neither-same}
 use Rattle.laws.specs.Lists.{count}
-use Rattle.laws.proofs.Lists.{All, all-map}
+use Rattle.laws.specs.Lists.{All}
+use Rattle.laws.proofs.Lists.{all-map}
 use Rattle.laws.proofs.Booleans.{by-cases, clash}
-use Rattle.laws.proofs.Sorting.{Weak, Sorted}
+use Rattle.laws.specs.Sorting.{Weak, Sorted}
 use Rattle.laws.proofs.Rows.{length-snoc}
 use Rattle.meaning.specs.Operators.{Row, Table, cell, rising, numberedAfter, inGroup}
 use Rattle.tables.specs.Layout.{Wide}

@@ -1,5 +1,4 @@
 pub mod Columns
-pub mod Places
 pub mod Halves
 pub mod Numbers
 pub mod Counting

@@ -16,7 +16,7 @@ use Rattle.laws.specs.Rows.{rowsAt, laid, flat}
 use Rattle.laws.specs.Sorting.{sort}
 use Rattle.laws.proofs.Rows.{length-rowsAt}
 use Rattle.laws.proofs.Merging.{length-sort}
-use Rattle.laws.proofs.Lists.{All}
+use Rattle.laws.specs.Lists.{All}
 use Rattle.laws.specs.Attempt.{gives}
 use Rattle.meaning.specs.Operators.{Row, Table, rising, numberedAfter, inGroup, number}
 use Rattle.tables.specs.declared.Stand.{Stand}
@@ -25,7 +25,7 @@ use Rattle.tables.specs.Layout.{tableAt, Inside, Owes}
 use Rattle.tables.proofs.Promise.{none-laid}
 use Rattle.numbering.specs.declared.Keys.{Keys}
 use Rattle.numbering.specs.declared.Keys.the-variants.{One, Two}
-use Rattle.numbering.specs.Order.{columnsOf, orderOf, standsBefore, Suits, Low}
+use Rattle.numbering.specs.Order.{columnsOf, orderOf, standsBefore, KeyColumns, Low}
 use Rattle.numbering.specs.Numbered.{rowOf, numberedRows}
 use Rattle.numbering.proofs.Counting.{wide-counted}
 use Rattle.numbering.proofs.Sorted.{columns-within, numbered-rows, numbers-within, rows-wide}
@@ -45,7 +45,7 @@ some-column w (One a) h = omega (arith, h .0)
 some-column w (Two a b) h = omega (arith, h .0)
 
 -- sizes that follow from the room
-module _ (s : Stand) (p : ℕ) (keys : Keys) (suits : Suits (s .width) p keys) where
+module _ (s : Stand) (p : ℕ) (keys : Keys) (suits : KeyColumns (s .width) p keys) where
   column : 0 < s .width
   column = some-column (s .width) keys (columns-within (s .width) p keys suits)
 
@@ -90,7 +90,7 @@ module _ (xs : List ℤ) (s : Stand) (p : ℕ) (keys : Keys) (room at : ℕ) whe
 
   -- ns: the numbers of the rows, sorted
   pub owed-laid :
-      Suits (s .width) p keys → (ns : List ℕ) (ys : List ℤ) → s .at + s .rows * s .width ≤ length xs →
+      KeyColumns (s .width) p keys → (ns : List ℕ) (ys : List ℤ) → s .at + s .rows * s .width ≤ length xs →
       at + s .rows * (s .width + 1) ≤ room → ns ≡ sort (standsBefore xs s (orderOf p keys)) (below (s .rows)) →
       ys ≡ laid xs at (flat (numberedRows xs s p ns)) →
       Owes room at (s .width + 1) (gives result) xs ys (Rows (s .rows))

@@ -1,29 +1,28 @@
 -- The pass that lays the rows in the order of their numbers, each with its counter.
---     Laying ..          what holds before row i of the order is laid: from `to` on there is room for the rows that are
+--     Turning ..          what holds before row i of the order is laid: from `to` on there is room for the rows that are
 --                        left, the table stands as it did, and what is left gives what the whole gives
 --     begins, goes-on    at the start, and after one row
 --     ends               at the end all rows are laid
 --     asked              what laying one row asks
-use Prim.Native.Nat.{ℕ, zero, suc, _+_, _-_, _*_, _≤_, _<_}
+use Prim.Native.Nat.{ℕ, suc, _+_, _-_, _*_, _≤_, _<_}
 use mathlib.Core.Path.{_≡_, refl, sym, ap, ap₂, _∙_}
 use mathlib.Core.List.{List, [], _∷_, _++_, map}
 use mathlib.Core.Bool.{Bool, true, false}
 use native.Mathlib.Omega.{arith}
-use native.Mathlib.Nat.{suc-mul, zero-add, sub-zero}
+use native.Mathlib.Nat.{suc-mul, sub-zero}
 use lib.Dec.{eqb}
 use lib.IntN.{ℤ, pos}
 use lib.ListN.{length, getD, take, drop, length-drop, take-append-drop}
 use lib.Seq.{drop-append-le, take-append-le, length-take-le}
 use Rattle.laws.specs.Lists.{gather}
 use Rattle.laws.specs.Rows.{row, laid, flat}
-use Rattle.laws.proofs.Lists.{All}
 use Rattle.laws.proofs.Booleans.{by-cases}
-use Rattle.laws.proofs.Rows.{laid-nothing, laid-more, length-laid, take-laid, length-row, getD-row, length-snoc}
+use Rattle.laws.proofs.Rows.{laid-nothing, laid-more, length-laid, take-laid, length-row, length-snoc}
 use Rattle.meaning.specs.Operators.{Row, Table, cell, inGroup}
 use Rattle.tables.specs.declared.Stand.{Stand}
 use Rattle.numbering.specs.Order.{from}
-use Rattle.numbering.specs.Numbered.{rowOf, counterOf, countedFrom, numberedRows, Ready}
-use Rattle.numbering.proofs.Places.{rest-cons}
+use Rattle.numbering.specs.Numbered.{rowOf, counterOf, countedFrom, numberedRows, Layable}
+use Rattle.laws.proofs.Places.{rest-cons}
 use Rattle.numbering.proofs.Sorted.{cell-row, row-end}
 
 module _ {A : Type 0} where
@@ -42,11 +41,6 @@ module _ {A : Type 0} where
   row-kept xs ys n a w h k e l =
       row-front xs n a w h l ∙ ap (λ (l : List A). row l a w) e ∙ sym (row-front ys n a w k l)
 
-  all-getD : (P : A → Type 0) (xs : List A) (i : ℕ) (d : A) → All P xs → i < length xs → P (getD xs i d)
-  all-getD P [] i d h k = absurd (omega arith)
-  all-getD P (x ∷ xs) zero d h k = h .0
-  all-getD P (x ∷ xs) (suc i) d h k = all-getD P xs i d (h .1) (omega arith)
-
 -- n rows from number i on, where row `last` has the counter c and stands in front of them
 abbrev some : List ℤ → Stand → ℕ → List ℕ → (c last i n : ℕ) → Table
 some xs s p ns c last i n = countedFrom (inGroup p) (rowOf xs s last) c (map (rowOf xs s) (row ns i n))
@@ -57,18 +51,19 @@ rest xs s p ns c last i = some xs s p ns c last i (s .rows - i)
 abbrev whole : List ℤ → Stand → ℕ → List ℕ → Table
 whole xs s p ns = numberedRows xs s p (row ns 0 (s .rows))
 
-pub record Laying (xs : List ℤ) (s : Stand) (p : ℕ) (ns : List ℕ) (at : ℕ) (ys : List ℤ) (to c last i : ℕ) : Type 0 where
-  pub begun : i ≤ s .rows
-  pub place : to + (s .rows - i) * (s .width + 1) ≡ at + s .rows * (s .width + 1)
-  pub behind : at ≤ to
-  pub long : length ys ≡ length xs
-  pub kept : take at ys ≡ take at xs
-  pub small : c ≤ i
-  pub near : last < s .rows
-  pub means : laid ys to (flat (rest xs s p ns c last i)) ≡ laid xs at (flat (whole xs s p ns))
+pub record Turning (xs : List ℤ) (s : Stand) (p : ℕ) (ns : List ℕ) (at : ℕ) (ys : List ℤ) (to c last i : ℕ) : Type 0
+  where
+    pub begun : i ≤ s .rows
+    pub place : to + (s .rows - i) * (s .width + 1) ≡ at + s .rows * (s .width + 1)
+    pub behind : at ≤ to
+    pub long : length ys ≡ length xs
+    pub kept : take at ys ≡ take at xs
+    pub small : c ≤ i
+    pub near : last < s .rows
+    pub means : laid ys to (flat (rest xs s p ns c last i)) ≡ laid xs at (flat (whole xs s p ns))
 
 module _ (xs : List ℤ) (s : Stand) (p : ℕ) (ns : List ℕ) (at : ℕ) where
-  pub begins : 0 < s .rows → Laying xs s p ns at xs at 0 0 0
+  pub begins : 0 < s .rows → Turning xs s p ns at xs at 0 0 0
   begins h =
       record {
         begun = omega arith;
@@ -82,22 +77,17 @@ module _ (xs : List ℤ) (s : Stand) (p : ℕ) (ns : List ℕ) (at : ℕ) where
       }
 
   pub ends :
-      (ys : List ℤ) (to c last i : ℕ) → Laying xs s p ns at ys to c last i → s .rows ≤ i →
+      (ys : List ℤ) (to c last i : ℕ) → Turning xs s p ns at ys to c last i → s .rows ≤ i →
       ys ≡ laid xs at (flat (whole xs s p ns))
   unfolding row countedFrom flat gather
   ends ys to c last i l h =
       let none : s .rows - i ≡ 0 = omega arith in
       sym (ap (λ (n : ℕ). laid ys to (flat (some xs s p ns c last i n))) none ∙ laid-nothing ys to) ∙ l .means
 
-  module _ (ready : Ready xs s p ns at) (ys : List ℤ) (to c last i : ℕ)
-      (l : Laying xs s p ns at ys to c last i) (more : i < s .rows) where
-    numbers-long : length (row ns 0 (s .rows)) ≡ s .rows
-    numbers-long = length-row ns 0 (s .rows) (omega (arith, ready .numbers))
-
+  module _ (ready : Layable xs s p ns at) (ys : List ℤ) (to c last i : ℕ)
+      (l : Turning xs s p ns at ys to c last i) (more : i < s .rows) where
     next-within : getD ns i 0 < s .rows
-    next-within =
-        rw (getD-row ns 0 (s .rows) i 0 more, zero-add i) at
-        (all-getD (λ i. i < s .rows) (row ns 0 (s .rows)) i 0 (ready .within) (omega (arith, numbers-long)))
+    next-within = ready .within i more
 
     turns : s .rows - i ≡ suc (s .rows - (i + 1))
     turns = omega arith
@@ -176,7 +166,7 @@ module _ (xs : List ℤ) (s : Stand) (p : ℕ) (ns : List ℕ) (at : ℕ) where
 
       pub goes-on :
           (zs : List ℤ) → zs ≡ laid ys to (row ys a (s .width) ++ (pos d ∷ [])) →
-          Laying xs s p ns at zs (to + (s .width + 1)) d k (i + 1)
+          Turning xs s p ns at zs (to + (s .width + 1)) d k (i + 1)
       goes-on zs lays =
           let fit : to + length one ≤ length ys = omega (arith, length-one, row-room) in
           let after : List ℤ = flat (rest xs s p ns d k (i + 1)) in

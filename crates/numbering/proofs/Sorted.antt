@@ -4,35 +4,36 @@
 --     column-p, columns-within, order-within     p and the keys are columns, where the plan check is passed
 --     sorted-rows         the sort of a table by columns, as the rows of the sorted numbers
 --     numbered-rows       what RN makes, as counted rows of the sorted numbers
---     numbers-within      the sorted numbers are those of rows
+--     numbers-within, number-within     the sorted numbers are those of rows
 --     row-end, rows-wide  the rows of the table end within it, and are as wide as it is
 use Prim.Native.Nat.{ℕ, zero, suc, _+_, _*_, _≤_, _<_}
 use mathlib.Core.Path.{_≡_, refl, sym, ap, _∙_, fun-ext}
 use mathlib.Core.List.{List, [], _∷_, _++_, map}
-use mathlib.Core.Bool.{Bool, true, false, _&&_, _||_}
+use mathlib.Core.Bool.{Bool, true, false, _||_}
 use native.Mathlib.Omega.{arith}
-use native.Mathlib.Nat.{suc-mul, zero-mul, add-zero, mul-le-mul-right}
+use native.Mathlib.Nat.{suc-mul, zero-mul, add-zero, mul-le-mul-right, zero-add}
 use lib.Dec.{eqb, ltb}
 use lib.IntN.{ℤ, pos}
-use lib.ListN.{length, drop}
+use lib.ListN.{length, drop, getD}
 use lib.Seq.{getD-take}
 use borrow.Author.Tests.{ltb-true}
 use Rattle.laws.specs.Lists.{below, all}
 use Rattle.laws.specs.Rows.{row, rowsAt}
 use Rattle.laws.specs.Sorting.{sort}
-use Rattle.laws.proofs.Lists.{All, all-below}
+use Rattle.laws.specs.Lists.{All}
+use Rattle.laws.proofs.Lists.{all-below, all-getD}
 use Rattle.laws.proofs.Filters.{map-append}
-use Rattle.laws.proofs.Booleans.{by-cases, clash}
+use Rattle.laws.proofs.Booleans.{by-cases}
 use Rattle.laws.proofs.Sorting.{all-sort, sorted-sort}
 use Rattle.laws.proofs.Merging.{map-sort}
-use Rattle.laws.proofs.Rows.{length-row}
+use Rattle.laws.proofs.Rows.{length-row, getD-row}
 use Rattle.laws.proofs.Booleans.{both-true}
 use Rattle.meaning.specs.Plan.{columns}
 use Rattle.meaning.specs.Operators.{Table, cell, rising, inGroup, number}
 use Rattle.tables.specs.declared.Stand.{Stand}
 use Rattle.tables.specs.Layout.{tableAt, Wide}
 use Rattle.numbering.specs.declared.Keys.{Keys}
-use Rattle.numbering.specs.Order.{columnsOf, orderOf, from, standsBefore, Suits}
+use Rattle.numbering.specs.Order.{columnsOf, orderOf, from, standsBefore, KeyColumns}
 use Rattle.numbering.specs.Numbered.{rowOf, countedFrom, numberedRows}
 use Rattle.numbering.proofs.Columns.{rising-weak}
 use Rattle.numbering.proofs.Counting.{counted-group}
@@ -81,14 +82,14 @@ all-within w (k ∷ ks) e =
     let h = both-true (ltb k w) (columns w ks) e in
     (ltb-true k w (h .0), all-within w ks (h .1))
 
-module _ (w p : ℕ) (keys : Keys) (suits : Suits w p keys) where
+module _ (w p : ℕ) (keys : Keys) (suits : KeyColumns w p keys) where
   pub column-p : eqb p 255 ≡ false → p < w
-  unfolding Suits
+  unfolding KeyColumns
   column-p e =
       ltb-true p w (sym (rw e) ∙ both-true (eqb p 255 || ltb p w) (columns w (columnsOf keys)) suits .0)
 
   pub columns-within : All (λ k. k < w) (columnsOf keys)
-  unfolding Suits
+  unfolding KeyColumns
   columns-within =
       all-within w (columnsOf keys) (both-true (eqb p 255 || ltb p w) (columns w (columnsOf keys)) suits .1)
 
@@ -107,7 +108,7 @@ module _ (xs : List ℤ) (s : Stand) where
       ∙ ap (λ (b : ℕ → ℕ → Bool). map (rowOf xs s) (sort b (below (s .rows))))
       (fun-ext (λ i. fun-ext (λ j. sym (rising-row xs (s .at + i * s .width) (s .at + j * s .width) (s .width) ks h))))
 
-  module _ (p : ℕ) (keys : Keys) (suits : Suits (s .width) p keys) (ns : List ℕ)
+  module _ (p : ℕ) (keys : Keys) (suits : KeyColumns (s .width) p keys) (ns : List ℕ)
       (sorted : ns ≡ sort (standsBefore xs s (orderOf p keys)) (below (s .rows))) where
     pub numbered-rows : number (tableAt xs s) p (columnsOf keys) ≡ numberedRows xs s p ns
     unfolding number orderOf
@@ -121,6 +122,13 @@ module _ (xs : List ℤ) (s : Stand) where
     numbers-within =
         rw sorted
         (all-sort (standsBefore xs s (orderOf p keys)) (λ i. i < s .rows) (below (s .rows)) (all-below (s .rows)))
+
+-- .. each of them
+pub number-within : (ns : List ℕ) (n : ℕ) → n ≤ length ns → All (λ i. i < n) (row ns 0 n)
+    → (i : ℕ) → i < n → getD ns i 0 < n
+number-within ns n h k i l =
+    rw (getD-row ns 0 n i 0 l, zero-add i) at
+    (all-getD (λ j. j < n) (row ns 0 n) i 0 k (omega (arith, length-row ns 0 n (omega arith))))
 
 -- row i ends within the table
 pub row-end : (s : Stand) (i : ℕ) → i < s .rows → s .at + i * s .width + s .width ≤ s .at + s .rows * s .width

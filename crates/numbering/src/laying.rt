@@ -7,7 +7,7 @@ ghost use lib.ListN.{length};
 ghost use Rattle.laws.specs.Rows.{row, laid, flat};
 ghost use Rattle.meaning.specs.Operators.{inGroup};
 ghost use Rattle.numbering.specs.Order.{from, Low};
-ghost use Rattle.numbering.specs.Numbered.{counterOf, numberedRows, Ready};
+ghost use Rattle.numbering.specs.Numbered.{counterOf, numberedRows, Layable};
 use crate::order::start;
 use crate::order::tied;
 use tables::Stand;
@@ -47,7 +47,7 @@ fn counter(work: &[i64], s: Stand, p: usize, i: u16, j: u16, c: usize) -> usize
 
 // The rows of the table in the order of their numbers, laid from `at` on.
 pub fn lay(work: &mut [i64], s: Stand, p: usize, order: &[u16], at: usize)
-    requires { ⌜ Ready (now work) s p (now order) at ⌝ }
+    requires { ⌜ Layable (now work) s p (now order) at ⌝ }
     ensures { λ r. ⌜ now (work .exit) ≡ laid (now (work .entry)) at
         (flat (numberedRows (now (work .entry)) s p (row (now (order .entry)) 0 (s .rows)))) ⌝ }
 {

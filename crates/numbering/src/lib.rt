@@ -3,13 +3,12 @@ mod laying;
 mod order;
 mod sorting;
 
-ghost use mathlib.Core.Path.{_≡_};
 ghost use Prim.Native.Nat.{_+_, _≤_};
 ghost use lib.ListN.{length};
 ghost use Rattle.laws.specs.Attempt.{gives};
 ghost use Rattle.meaning.specs.Operators;
 ghost use Rattle.tables.specs.Layout.{tableAt, Inside, Owes};
-ghost use Rattle.numbering.specs.Order.{columnsOf, Suits};
+ghost use Rattle.numbering.specs.Order.{columnsOf, KeyColumns};
 use tables::Laid;
 use tables::Stand;
 
@@ -32,7 +31,7 @@ pub fn number(
     room: usize,
 ) -> Laid
     requires { ⌜ (Inside at s) × (at ≤ room) × (room ≤ length (now work)) × (room ≤ 65536) ⌝ }
-    requires { ⌜ Suits (s .width) p keys ⌝ }
+    requires { ⌜ KeyColumns (s .width) p keys ⌝ }
     requires { ⌜ (32768 ≤ length (now order)) × (16384 ≤ length (now aside)) ⌝ }
     ensures { λ r. ⌜ Owes room at (s .width + 1)
         (gives (Operators.number (tableAt (now (work .entry)) s) p (columnsOf keys)))

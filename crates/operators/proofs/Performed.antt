@@ -14,13 +14,13 @@ use Rattle.meaning.specs.Operators.{Table, tableOf, make}
 use Rattle.meaning.specs.Plan.{columnsAt}
 use Rattle.meaning.specs.World.{worldOf}
 use Rattle.tables.specs.declared.Laid.{Laid}
-use Rattle.tables.specs.declared.Task.{Task}
-use Rattle.tables.specs.declared.Task.the-variants as Task
+use Rattle.rowwise.specs.declared.Task.{Task}
+use Rattle.rowwise.specs.declared.Task.the-variants as Task
 use Rattle.tables.specs.Layout.{tableAt, Owes}
-use Rattle.tables.specs.Tasks.{made, wider}
+use Rattle.rowwise.specs.Tasks.{made, wider}
 use Rattle.tables.proofs.Promise.{owes-is}
-use Rattle.tables.proofs.Operators.{makes-RT, makes-RA, makes-RP, makes-RU, makes-RD, makes-RS, makes-RF, makes-RV}
-use Rattle.tables.proofs.Operators.{makes-RK, makes-RO}
+use Rattle.rowwise.proofs.Operators.{makes-RA, makes-RP, makes-RD, makes-RS, makes-RF, makes-RV}
+use Rattle.whole.proofs.Makes.{makes-RT, makes-RU, makes-RK, makes-RO}
 use Rattle.plans.specs.declared.Operator.{Operator}
 use Rattle.plans.specs.declared.Operator.the-variants as Operator
 use Rattle.plans.specs.Decoded.{operatorOf}

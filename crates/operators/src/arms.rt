@@ -11,8 +11,8 @@ ghost use Rattle.meaning.specs.Operators;
 ghost use Rattle.meaning.specs.Plan.{columns, columnsAt};
 ghost use Rattle.meaning.specs.World.{worldOf};
 ghost use Rattle.tables.specs.Layout.{tableAt, Owes};
-ghost use Rattle.tables.specs.Tasks;
-ghost use Rattle.steps.specs.Marks.{Ready};
+ghost use Rattle.rowwise.specs.Tasks;
+ghost use Rattle.axes.specs.Steps.{Ready};
 ghost use Rattle.numbering.specs.Order.{columnsOf};
 ghost use Rattle.directory.specs.Directory.{standAt};
 ghost use Rattle.directory.specs.Sound.{Stands, wide};
@@ -20,8 +20,8 @@ use cells::Axis;
 use cells::Test;
 use directory::stand;
 use numbering::Keys;
+use rowwise::Task;
 use tables::Laid;
-use tables::Task;
 
 // The row-wise operators, RA RP RS RF: a task for each row of table t.
 pub fn rowwise(
@@ -45,7 +45,7 @@ pub fn rowwise(
         (now (work .entry)) (now (work .exit)) r ⌝ }
 {
     let s = stand(directory, t);
-    tables::each::rowwise(plan, doc, rows, work, s, task, at, room)
+    rowwise::each::rowwise(plan, doc, rows, work, s, task, at, room)
 }
 
 // RD: the rows of table t equal to no row of table u.
@@ -102,7 +102,7 @@ pub fn union(
 {
     let s = stand(directory, t);
     let other = stand(directory, u);
-    tables::whole::union(work, s, other, at, room)
+    whole::union(work, s, other, at, room)
 }
 
 // RJ: for each row of table t, each row of table u with equal cells in columns c and d; both rows joined.
@@ -148,7 +148,7 @@ pub fn once(
         (now (work .entry)) (now (work .exit)) r ⌝ }
 {
     let s = stand(directory, t);
-    tables::once::once(work, s, c, at, room)
+    whole::once::once(work, s, c, at, room)
 }
 
 // RO: table t with the cell of fragment k's root.
@@ -172,7 +172,7 @@ pub fn root(
         (now (work .entry)) (now (work .exit)) r ⌝ }
 {
     let s = stand(directory, t);
-    tables::whole::root(plan, doc, rows, work, s, k, at, room)
+    whole::root(plan, doc, rows, work, s, k, at, room)
 }
 
 // The keys of RN: n columns, bytes of the plan from an offset on.

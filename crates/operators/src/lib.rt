@@ -5,7 +5,7 @@ ghost use Rattle.meaning.specs.Catalogue.{catalogueOf};
 ghost use Rattle.meaning.specs.Operators.{make};
 ghost use Rattle.meaning.specs.World.{worldOf};
 ghost use Rattle.tables.specs.Layout.{Owes};
-ghost use Rattle.steps.specs.Marks.{Ready};
+ghost use Rattle.axes.specs.Steps.{Ready};
 ghost use Rattle.plans.specs.Decoded.{operatorOf};
 ghost use Rattle.directory.specs.Directory.{tablesIn, Listed};
 ghost use Rattle.directory.specs.Sound.{madeWidth, Sound};
@@ -13,8 +13,8 @@ ghost use Rattle.directory.specs.Sound.{madeWidth, Sound};
 mod arms;
 
 use plans::Operator;
+use rowwise::Task;
 use tables::Laid;
-use tables::Task;
 
 // The end of the tables: how many stand, and the cells that they fill.
 pub struct Top {
@@ -50,7 +50,7 @@ pub fn perform(
 {
     let at = top.cells;
     match operator {
-        Operator::One => tables::whole::one(work, at, room),
+        Operator::One => whole::one(work, at, room),
         Operator::Attach { t, cell } => {
             arms::rowwise(
                 plan,

@@ -24,8 +24,9 @@ use Rattle.laws.specs.Attempt.{unless}
 use Rattle.meaning.specs.Plan.{Op, Placed, columnsAt, columns, tableWidth, widthOf, operatorAt, placedAt, lastOf, ended}
 use Rattle.meaning.specs.Plan.{planFrom, planRead}
 use Rattle.laws.proofs.Outcomes.{reads-same, refuses-reads, gives-same}
-use Rattle.theorems.proofs.PlanFields.{Own, Width}
-use Rattle.theorems.proofs.PlanWidths.{Every, attempt-gives, provided-gives}
+use Rattle.theorems.specs.PlanFields.{Own, Width}
+use Rattle.theorems.specs.PlanWidths.{Every}
+use Rattle.theorems.proofs.PlanWidths.{attempt-gives, provided-gives}
 use Rattle.laws.proofs.Booleans.{both-true}
 use Rattle.plans.specs.declared.Operator.{Operator}
 use Rattle.plans.specs.declared.Operator.the-variants as Operator

@@ -16,8 +16,8 @@ use lib.ListN.{length, getD, take, set, length-append, length-set}
 use lib.Seq.{take-suc-set, getD-take}
 use Rattle.laws.specs.Attempt.{Attempt, fails, gives, Reading, refuses, reads, reading, unless}
 use Rattle.meaning.specs.Plan.{Op, Placed, operatorAt, widthOf, lastOf, ended, planRead}
-use Rattle.theorems.proofs.PlanFields.{Width}
-use Rattle.theorems.proofs.PlanWidths.{Every}
+use Rattle.theorems.specs.PlanFields.{Width}
+use Rattle.theorems.specs.PlanWidths.{Every}
 use Rattle.plans.specs.declared.Operator.{Operator}
 use Rattle.plans.specs.declared.Decoded.{Decoded}
 use Rattle.plans.specs.declared.Reading.{Reading as Read}

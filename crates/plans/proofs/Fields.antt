@@ -17,7 +17,7 @@ use Rattle.meaning.specs.Written.{testName}
 use Rattle.meaning.specs.Plan.{Op, sized, field, attachAt, projectAt, numberAt, functionAt, stepAt, operatorOf, operatorAt}
 use Rattle.meaning.specs.Plan.{markRT, markRA, markRP, markRU, markRD, markRS, markRJ, markRN, markRF, markRC, markRE}
 use Rattle.meaning.specs.Plan.{markRK, markRX, markRO}
-use Rattle.theorems.proofs.PlanFields.{Own}
+use Rattle.theorems.specs.PlanFields.{Own}
 use Rattle.laws.proofs.Booleans.{both-true}
 use Rattle.laws.proofs.Outcomes.{given-fails, given-gives, given-cond, given-provided, given-attempt, given-any}
 use Rattle.plans.specs.Walk.{Ends}

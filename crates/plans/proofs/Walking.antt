@@ -13,8 +13,9 @@ use lib.Dec.{leb, eqb}
 use lib.ListN.{length, getD, length-append}
 use Rattle.laws.specs.Attempt.{Attempt, fails, gives, attempt, Reading, refuses, reads, reading, refusing, unless}
 use Rattle.meaning.specs.Plan.{Op, Placed, operatorAt, widthOf, placedAt, lastOf, ended, planFrom, planRead}
-use Rattle.theorems.proofs.PlanFields.{Width, widths-checked}
-use Rattle.theorems.proofs.PlanWidths.{Every, widths}
+use Rattle.theorems.specs.PlanFields.{Width}
+use Rattle.theorems.proofs.PlanFields.{widths-checked}
+use Rattle.theorems.specs.PlanWidths.{Every, widths}
 use Rattle.plans.specs.Walk.{widthsOf, lastAt, Walk}
 use Rattle.cells.specs.Bytes.{Bytes}
 use Rattle.plans.proofs.Fields.{operator-ends}

@@ -13,7 +13,7 @@ use Rattle.cells.specs.Cell.{held}
 use Rattle.laws.specs.Attempt.{gives, reads}
 use Rattle.meaning.specs.Written.{testName}
 use Rattle.meaning.specs.Plan.{Op, Placed, plainIn, columnsAt, columns, widthOf, operatorAt, planRead}
-use Rattle.theorems.proofs.PlanFields.{Own, Width}
+use Rattle.theorems.specs.PlanFields.{Own, Width}
 use Rattle.plans.specs.declared.Operator.{Operator}
 use Rattle.plans.specs.declared.Operator.the-variants as Operator
 use Rattle.plans.specs.declared.Decoded.{Decoded}

@@ -12,8 +12,8 @@ use mathlib.Core.List.{List, [], _∷_, map}
 use lib.ListN.{length, take}
 use Rattle.laws.specs.Attempt.{Reading, refuses, reads, reading}
 use Rattle.meaning.specs.Plan.{Op, Placed, lastOf, planFrom, planRead}
-use Rattle.theorems.proofs.PlanFields.{Own, Width}
-use Rattle.theorems.proofs.PlanWidths.{Every}
+use Rattle.theorems.specs.PlanFields.{Own, Width}
+use Rattle.theorems.specs.PlanWidths.{Every}
 use Rattle.plans.specs.declared.Checked.{Checked}
 use Rattle.plans.specs.declared.Checked.the-variants.{Operators, Unsound}
 

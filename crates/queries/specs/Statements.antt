@@ -24,7 +24,7 @@ use Rattle.laws.specs.Attempt.{Attempt, gives}
 use Rattle.meaning.specs.Query.{Query, QL, QE, QR, QV, QS, QT, QF, QI, QO, QC, QD, QX, Record, literal, empty, root}
 use Rattle.meaning.specs.Query.{variable, sequence, letting, for, choice}
 use Rattle.meaning.specs.Query.{function, counting, values, step, Read, free}
-use Rattle.theorems.proofs.Closed.{Closed, records}
+use Rattle.theorems.specs.Closed.{Closed, records}
 use Rattle.queries.specs.declared.Operands.{Operands}
 use Rattle.queries.specs.declared.Operands.the-variants.{None, Variable, One, Two, Binding, Three}
 use Rattle.queries.specs.Parse.{Parsed, parse}

@@ -21,7 +21,8 @@ use lib.Dec.{eqb}
 use lib.ListN.{length, getD, set, length-append}
 use lib.Seq.{getD-set-same, getD-set-other}
 use Rattle.laws.specs.Lists.{filter, below}
-use Rattle.laws.proofs.Lists.{All, all-map, all-below, all-kept}
+use Rattle.laws.specs.Lists.{All}
+use Rattle.laws.proofs.Lists.{all-map, all-below, all-kept}
 use Rattle.laws.proofs.Filters.{filter-append, filter-same}
 use Rattle.laws.proofs.Booleans.{by-cases}
 use Rattle.meaning.specs.Plan.{Op, RJ, RP}

@@ -21,7 +21,7 @@ use Rattle.meaning.specs.Run.{running}
 use Rattle.meaning.specs.World.{World}
 use Rattle.tables.specs.declared.Laid.the-variants as Laid
 use Rattle.tables.specs.Layout.{Owes}
-use Rattle.steps.specs.Marks.{Ready}
+use Rattle.axes.specs.Steps.{Ready}
 use Rattle.plans.specs.declared.Decoded.{Decoded}
 use Rattle.plans.specs.declared.Reading.{Reading as Read}
 use Rattle.plans.specs.declared.Reading.the-variants as Read

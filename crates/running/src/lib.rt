@@ -6,7 +6,7 @@ ghost use Rattle.meaning.specs.Calls.{room};
 ghost use Rattle.meaning.specs.Catalogue.{catalogueOf};
 ghost use Rattle.meaning.specs.Operators.{make};
 ghost use Rattle.meaning.specs.World.{worldOf};
-ghost use Rattle.steps.specs.Marks.{Known, Ready};
+ghost use Rattle.axes.specs.Steps.{Known, Ready};
 ghost use Rattle.plans.specs.Decoded.{operatorOf};
 ghost use Rattle.directory.specs.Directory.{tablesIn, Listed};
 ghost use Rattle.directory.specs.Sound.{madeWidth, Sound};

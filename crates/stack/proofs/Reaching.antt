@@ -20,11 +20,12 @@ use Rattle.meaning.specs.Catalogue.{catalogueOf}
 use Rattle.meaning.specs.World as World
 use Rattle.meaning.specs.World.{worldOf}
 use Rattle.meaning.specs.Counted.{adding}
-use Rattle.steps.specs.declared.Marked.{Marked}
-use Rattle.steps.specs.declared.Marked.the-variants.{AllNodes, NotANode}
-use Rattle.steps.specs.Marks.{ranks, Step}
-use Rattle.steps.specs.Nodes.{FromAll}
-use Rattle.steps.proofs.Whole.{step-gives, step-fails}
+use Rattle.marks.specs.declared.Marked.{Marked}
+use Rattle.marks.specs.declared.Marked.the-variants.{AllNodes, NotANode}
+use Rattle.axes.specs.Steps.{Step}
+use Rattle.marks.specs.Nodes.{ranks}
+use Rattle.marks.specs.Nodes.{FromAll}
+use Rattle.axes.proofs.Whole.{step-gives, step-fails}
 use Rattle.stack.specs.declared.Stood.{Stood}
 use Rattle.stack.specs.declared.Stood.the-variants as Stood
 use Rattle.stack.specs.Stack.{stood, Fit, Ends, At, Lent, Leaves, raising}

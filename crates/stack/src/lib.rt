@@ -3,7 +3,7 @@ use cells::Axis;
 use cells::Function;
 use cells::Test;
 use items::Tried;
-use steps::Marked;
+use marks::Marked;
 ghost use mathlib.Core.Path.{_≡_};
 ghost use mathlib.Core.List.{[], _∷_};
 ghost use Prim.Native.Nat.{ℕ, _+_, _-_, _*_, _≤_, _<_, max};
@@ -12,7 +12,7 @@ ghost use Rattle.laws.specs.Rows.{row};
 ghost use Rattle.meaning.specs.Catalogue.{Catalogue, catalogueOf};
 ghost use Rattle.meaning.specs.World.{worldOf};
 ghost use Rattle.meaning.specs.Counted.{adding};
-ghost use Rattle.steps.specs.Marks.{Ready};
+ghost use Rattle.axes.specs.Steps.{Ready};
 ghost use Rattle.stack.specs.Stack.{stood, paired, Fit, FitPair, Sums, EndsPair, Ends, At, Leaves, Lent};
 ghost use Rattle.stack.specs.Stack.{raising, joining, besiding, Adds};
 ghost use Rattle.stack.specs.Arms.{rooted, kept, applied, counted, valued, Valued, stepped, Reaches};
@@ -344,11 +344,11 @@ fn reach(
     requires { ⌜ Ready (now doc) rows (now from) (now to) ⌝ }
     ensures { λ m. ⌜ Reaches (now (doc .entry)) rows axis test (now (cells .entry)) (now (to .exit)) m ⌝ }
 {
-    let marked = steps::mark(cells, rows, from);
+    let marked = marks::mark(cells, rows, from);
     let Marked::AllNodes = marked else {
         return Marked::NotANode;
     };
-    steps::step(doc, rows, axis, test, from, to);
+    axes::step(doc, rows, axis, test, from, to);
     Marked::AllNodes
 }
 
@@ -385,11 +385,11 @@ pub fn step(
     let Marked::AllNodes = marked else {
         return Stood::Failed(at);
     };
-    let n = steps::count(to, rows);
+    let n = marks::count(to, rows);
     if room - end < n {
         return Stood::Full(at);
     }
-    steps::write(to, rows, work, top);
+    marks::write(to, rows, work, top);
     Stood::Items {
         length: n,
         count: larger(count, length + n),

@@ -1,31 +1,28 @@
--- Columns cell by cell, as loops go through them (RK).
---     column-head, column-none     the first cell of a column, and the others
---     seen, unseen, unseen-all     a cell looked for in a column
---     rises-..                     a column that rises, and that it holds no cell twice
---     once-..                      no cell stands again further down
+-- Columns cell by cell, as loops go through them.
+--     column-head, column-none               the first cell of a column, and the others
+--     same-cell, seen, unseen, unseen-all    a cell looked for in a column
+--     rises-not, rises-next, rises-last      a column that rises, taken apart at its head
 use Prim.Native.Nat.{ℕ, zero, suc, _+_, _-_, _≤_, _<_}
-use mathlib.Core.Path.{_≡_, refl, sym, ap, ap₂, _∙_}
+use mathlib.Core.Path.{_≡_, refl, sym, ap, _∙_}
 use mathlib.Core.List.{List, [], _∷_}
-use mathlib.Core.Bool.{Bool, true, false, not, _&&_, _||_, false≢true}
+use mathlib.Core.Bool.{true, false, _&&_, _||_}
 use native.Mathlib.Omega.{arith}
 use lib.IntN.{ℤ, pos}
 use lib.ListN.{getD}
 use Rattle.cells.specs.Cell.{same, before}
-use Rattle.cells.proofs.Cells.{before-trans, before-other}
 use Rattle.laws.specs.Lists.{any}
 use Rattle.laws.specs.Rows.{rowsAt}
-use Rattle.laws.proofs.Lists.{All, all-map}
-use Rattle.laws.proofs.Booleans.{both-true}
-use Rattle.meaning.specs.Operators.{Table, cell, column, once}
+use Rattle.meaning.specs.Operators.{Table, column}
 use Rattle.tables.specs.Order.{rises}
-use Rattle.tables.proofs.Columns.{cell-read}
+use Rattle.tables.proofs.Reading.{cell-read}
 use Rattle.tables.proofs.Unrolled.{rows-head, rows-none}
 
 pub same-cell : (z v : ℤ) (xs : List ℤ) → z ≡ v → any (same z) xs ≡ any (same v) xs
 same-cell z v xs e = ap (λ (u : ℤ). any (same u) xs) e
 
 module _ (xs : List ℤ) (a n w c : ℕ) (inside : c < w) where
-  pub column-head : 0 < n → column (rowsAt xs a n w) c ≡ getD xs (a + c) (pos 0) ∷ column (rowsAt xs (a + w) (n - 1) w) c
+  pub column-head :
+      0 < n → column (rowsAt xs a n w) c ≡ getD xs (a + c) (pos 0) ∷ column (rowsAt xs (a + w) (n - 1) w) c
   unfolding column
   column-head h =
       ap (λ (t : Table). column t c) (rows-head xs a n w h)
@@ -51,41 +48,22 @@ module _ (xs : List ℤ) (a n w c : ℕ) (inside : c < w) where
     unfolding any
     unseen-all e = ap (any (same z)) (column-none e)
 
-  -- no cell again
-  module _ (h : 0 < n) where
-    once-split :
-        once (column (rowsAt xs a n w) c)
-        ≡ (not (any (same (getD xs (a + c) (pos 0))) (column (rowsAt xs (a + w) (n - 1) w) c)) && once (column (rowsAt xs (a + w) (n - 1) w) c))
-    unfolding once
-    once-split = ap once (column-head h)
-
-    pub once-again :
-        any (same (getD xs (a + c) (pos 0))) (column (rowsAt xs (a + w) (n - 1) w) c) ≡ true →
-        once (column (rowsAt xs a n w) c) ≡ false
-    once-again e = once-split ∙ ap (λ (t : Bool). not t && once (column (rowsAt xs (a + w) (n - 1) w) c)) e
-
-    pub once-next :
-        any (same (getD xs (a + c) (pos 0))) (column (rowsAt xs (a + w) (n - 1) w) c) ≡ false →
-        once (column (rowsAt xs a n w) c) ≡ once (column (rowsAt xs (a + w) (n - 1) w) c)
-    once-next e = once-split ∙ ap (λ (t : Bool). not t && once (column (rowsAt xs (a + w) (n - 1) w) c)) e
-
-  pub once-none : n ≡ 0 → once (column (rowsAt xs a n w) c) ≡ true
-  unfolding once
-  once-none e = ap once (column-none e)
-
 -- two neighbours
 module _ (xs : List ℤ) (a n w c : ℕ) (inside : c < w) where
   module _ (h : 1 < n) where
     rises-split :
         rises (column (rowsAt xs a n w) c)
-        ≡ (before (getD xs (a + c) (pos 0)) (getD xs (a + w + c) (pos 0)) && rises (column (rowsAt xs (a + w) (n - 1) w) c))
+        ≡ (before (getD xs (a + c) (pos 0)) (getD xs (a + w + c) (pos 0))
+        && rises (column (rowsAt xs (a + w) (n - 1) w) c))
     unfolding rises
     rises-split =
         let next = column-head xs (a + w) (n - 1) w c inside (omega arith) in
         ap rises (column-head xs a n w c inside (omega arith) ∙ ap (getD xs (a + c) (pos 0) ∷_) next)
         ∙ ap (λ (l : List ℤ). before (getD xs (a + c) (pos 0)) (getD xs (a + w + c) (pos 0)) && rises l) (sym next)
 
-    pub rises-not : before (getD xs (a + c) (pos 0)) (getD xs (a + w + c) (pos 0)) ≡ false → rises (column (rowsAt xs a n w) c) ≡ false
+    pub rises-not :
+        before (getD xs (a + c) (pos 0)) (getD xs (a + w + c) (pos 0)) ≡ false
+        → rises (column (rowsAt xs a n w) c) ≡ false
     rises-not e = rises-split ∙ ap (_&& rises (column (rowsAt xs (a + w) (n - 1) w) c)) e
 
     pub rises-next :
@@ -103,24 +81,3 @@ module _ (xs : List ℤ) (a n w c : ℕ) (inside : c < w) where
           ap rises
           (column-head xs a n w c inside (omega arith)
           ∙ ap (getD xs (a + c) (pos 0) ∷_) (column-none xs (a + w) (n - 1) w c inside (omega arith)))
-
--- a column that rises holds no cell twice
-all-after : (x : ℤ) (xs : List ℤ) → rises (x ∷ xs) ≡ true → All (λ y. before x y ≡ true) xs
-unfolding rises
-all-after x [] e = tt
-all-after x (y ∷ ys) e =
-    let h = both-true (before x y) (rises (y ∷ ys)) e in
-    (h .0, all-map ys (λ z k. before-trans x y z (h .0) k) (all-after y ys (h .1)))
-
-none-same : (x : ℤ) (xs : List ℤ) → All (λ y. before x y ≡ true) xs → any (same x) xs ≡ false
-unfolding any
-none-same x [] h = refl
-none-same x (y ∷ ys) h = ap₂ _||_ (before-other x y (h .0)) (none-same x ys (h .1))
-
-pub rises-once : (xs : List ℤ) → rises xs ≡ true → once xs ≡ true
-unfolding rises once any
-rises-once [] e = refl
-rises-once (x ∷ []) e = refl
-rises-once (x ∷ y ∷ ys) e =
-    ap₂ (λ (s t : Bool). not s && t) (none-same x (y ∷ ys) (all-after x (y ∷ ys) e))
-    (rises-once (y ∷ ys) (both-true (before x y) (rises (y ∷ ys)) e .1))

@@ -1,6 +1,4 @@
--- The one invariant of every loop that lays rows behind each other: what is left to do gives what the whole gives.
---     Laying room at w f whole entry left work top n
---         of `whole`, which does f for each member of a list, the n rows up to `top` are laid; `left` is still to do
+-- Laws of `Laying`, the one invariant of every loop that lays rows behind each other.
 --     laying-start, laying-more, laying-end     the loop begins, lays some rows, ends
 --     laying-full, laying-fails                 a turn passes the room, or fails
 --     laying-stopped                            either of these
@@ -24,20 +22,10 @@ use Rattle.meaning.specs.Operators.{Row, Table}
 use Rattle.tables.specs.declared.Laid.{Laid}
 use Rattle.tables.specs.declared.Laid.the-variants.{Rows, Full, Fails}
 use Rattle.tables.specs.Layout.{Wide, Owes}
-use Rattle.tables.specs.Tasks.{Settled}
+use Rattle.tables.specs.Laying.{Settled, Laying}
 use Rattle.tables.proofs.Laid.{the-type}
 use Rattle.tables.proofs.Promise.{flat-append, length-flat, wide-append}
 use Rattle.tables.proofs.Unrolled.{rows-head, rows-none}
-
-pub record Laying {A : Type 0} (room at w : ℕ) (f : A → Attempt Table) (whole : Attempt Table) (entry : List ℤ)
-    (left : List A) (work : List ℤ) (top n : ℕ) : Type 0 where
-  pub done : Table
-  pub wide : Wide w done
-  pub rows-are : length done ≡ n
-  pub top-is : top ≡ at + n * w
-  pub fits : top ≤ room
-  pub cells-are : work ≡ laid entry at (flat done)
-  pub whole-is : whole ≡ attempt (each f left) (λ zs. gives (done ++ zs))
 
 -- rows that have cells are no more than the room
 pub counted-fits : (room at w top n m : ℕ) → 0 < w → top ≡ at + n * w → top + m * w ≤ room → n + m ≤ room
@@ -56,7 +44,8 @@ module _ {A : Type 0} (f : A → Attempt Table) (done : Table) (x : A) (left : L
   each-more t e = rw e (by-rest (each f left))
     where
       by-rest : (o : Attempt Table)
-          → attempt (attempt o (λ zs. gives (t ++ zs))) (λ zs. gives (done ++ zs)) ≡ attempt o (λ zs. gives ((done ++ t) ++ zs))
+          → attempt (attempt o (λ zs. gives (t ++ zs))) (λ zs. gives (done ++ zs))
+          ≡ attempt o (λ zs. gives ((done ++ t) ++ zs))
       by-rest fails = refl
       by-rest (gives u) = ap gives (sym (append-assoc done t u))
 
@@ -92,7 +81,9 @@ module _ {A : Type 0} (room at w : ℕ) (f : A → Attempt Table) (entry : List 
     laid-up-to l =
         omega (arith, length-flat w (l .done) (l .wide), ap (λ (k : ℕ). k * w) (l .rows-are))
 
-    pub length-laying : {left : List A} → room ≤ length entry → Laying room at w f whole entry left ys top n → length ys ≡ length entry
+    pub length-laying :
+        {left : List A} → room ≤ length entry → Laying room at w f whole entry left ys top n
+        → length ys ≡ length entry
     length-laying h l =
         let e = laid-up-to l in
         ap length (l .cells-are) ∙ length-laid entry at (flat (l .done)) (omega arith)
@@ -111,7 +102,9 @@ module _ {A : Type 0} (room at w : ℕ) (f : A → Attempt Table) (entry : List 
 
     module _ (x : A) (left : List A) (zs : List ℤ) (inside : room ≤ length entry)
         (l : Laying room at w f whole entry (x ∷ left) ys top n) where
-      pub laying-more : (m : ℕ) → Owes room top w (f x) ys zs (Rows m) → Laying room at w f whole entry left zs (top + m * w) (n + m)
+      pub laying-more :
+          (m : ℕ) → Owes room top w (f x) ys zs (Rows m)
+          → Laying room at w f whole entry left zs (top + m * w) (n + m)
       unfolding Owes
       laying-more m o =
           let e = laid-up-to l in
@@ -139,7 +132,8 @@ module _ {A : Type 0} (room at w : ℕ) (f : A → Attempt Table) (entry : List 
           let t = o .table in
           let e : attempt (each f left) (λ us. gives ((d ++ t) ++ us)) ≡ gives (s .0) =
           sym (each-more f d x left t (o .made-is)) ∙ sym (l .whole-is) ∙ s .1 in
-          let h : length d + length t ≤ length (s .0) = omega (arith, longer (each f left) (d ++ t) (s .0) e, length-append d t) in
+          let h : length d + length t ≤ length (s .0) =
+          omega (arith, longer (each f left) (d ++ t) (s .0) e, length-append d t) in
           record {
             table = s .0;
             made-is = s .1;
@@ -166,24 +160,31 @@ module _ {A : Type 0} (room at w : ℕ) (f : A → Attempt Table) (entry : List 
       laying-stopped Fails h s o = laying-fails o
 
 -- a loop over the rows of a table
-module _ (room at w : ℕ) (f : Row → Attempt Table) (entry : List ℤ) (whole : Attempt Table) (ys : List ℤ) (top n b left v : ℕ)
-    (more : 0 < left) (inside : room ≤ length entry) (l : Laying room at w f whole entry (rowsAt entry b left v) ys top n) where
+module _ (room at w : ℕ) (f : Row → Attempt Table) (entry : List ℤ) (whole : Attempt Table) (ys : List ℤ)
+    (top n b left v : ℕ)
+    (more : 0 < left) (inside : room ≤ length entry)
+    (l : Laying room at w f whole entry (rowsAt entry b left v) ys top n) where
   first-row : Laying room at w f whole entry (row entry b v ∷ rowsAt entry (b + v) (left - 1) v) ys top n
   first-row = subst (λ (t : Table). Laying room at w f whole entry t ys top n) (rows-head entry b left v more) l
 
   pub row-more :
       (zs : List ℤ) (m : ℕ) → Owes room top w (f (row entry b v)) ys zs (Rows m) →
       Laying room at w f whole entry (rowsAt entry (b + v) (left - 1) v) zs (top + m * w) (n + m)
-  row-more zs m o = laying-more room at w f entry whole ys top n (row entry b v) (rowsAt entry (b + v) (left - 1) v) zs inside first-row m o
+  row-more zs m o =
+      laying-more room at w f entry whole ys top n (row entry b v) (rowsAt entry (b + v) (left - 1) v) zs inside
+      first-row m o
 
   pub row-stopped :
-      (zs : List ℤ) (o : Laid) → OneOf (1 ∷ 2 ∷ []) (tagOf the-type o) → Settled whole → Owes room top w (f (row entry b v)) ys zs o →
+      (zs : List ℤ) (o : Laid) → OneOf (1 ∷ 2 ∷ []) (tagOf the-type o) → Settled whole
+      → Owes room top w (f (row entry b v)) ys zs o →
       Owes room at w whole entry zs o
   row-stopped zs =
-      laying-stopped room at w f entry whole ys top n (row entry b v) (rowsAt entry (b + v) (left - 1) v) zs inside first-row
+      laying-stopped room at w f entry whole ys top n (row entry b v) (rowsAt entry (b + v) (left - 1) v) zs inside
+      first-row
 
 pub rows-laid :
-    (room at w : ℕ) (f : Row → Attempt Table) (entry : List ℤ) (whole : Attempt Table) (ys : List ℤ) (top n b left v : ℕ) →
+    (room at w : ℕ) (f : Row → Attempt Table) (entry : List ℤ) (whole : Attempt Table) (ys : List ℤ)
+    (top n b left v : ℕ) →
     left ≡ 0 → Laying room at w f whole entry (rowsAt entry b left v) ys top n → Owes room at w whole entry ys (Rows n)
 rows-laid room at w f entry whole ys top n b left v e l =
     laying-end room at w f entry whole ys top n

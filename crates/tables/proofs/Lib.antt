@@ -1,9 +1,7 @@
 pub mod Promise
-pub mod Columns
 pub mod Unrolled
-pub mod Laying
-pub mod Joined
-pub mod Tasks
-pub mod Standing
-pub mod Operators
+pub mod Reading
 pub mod Cells
+pub mod Climbing
+pub mod Laying
+pub mod Standing

@@ -46,12 +46,14 @@ wide-append w (r ∷ t) u h k = (h .0, wide-append w t u (h .1) k)
 
 -- the promise of one attempt is that of another that is equal
 pub owes-is :
-    (room at w : ℕ) {m n : Attempt Table} (xs ys : List ℤ) (o : Laid) → m ≡ n → Owes room at w n xs ys o → Owes room at w m xs ys o
+    (room at w : ℕ) {m n : Attempt Table} (xs ys : List ℤ) (o : Laid) → m ≡ n → Owes room at w n xs ys o
+    → Owes room at w m xs ys o
 owes-is room at w xs ys o e h = subst (λ (a : Attempt Table). Owes room at w a xs ys o) (sym e) h
 
 -- the promise at one width is that at an equal one
 pub owes-wide :
-    (room at : ℕ) (w v : ℕ) (m : Attempt Table) (xs ys : List ℤ) (o : Laid) → w ≡ v → Owes room at w m xs ys o → Owes room at v m xs ys o
+    (room at : ℕ) (w v : ℕ) (m : Attempt Table) (xs ys : List ℤ) (o : Laid) → w ≡ v → Owes room at w m xs ys o
+    → Owes room at v m xs ys o
 owes-wide room at w v m xs ys o e h = subst (λ (n : ℕ). Owes room at n m xs ys o) e h
 
 -- one table or another, by a test
@@ -59,7 +61,8 @@ module _ (room at w : ℕ) (t u : Table) (xs ys : List ℤ) (o : Laid) where
   pub owes-then : (b : Bool) → b ≡ true → Owes room at w (gives t) xs ys o → Owes room at w (gives (cond b t u)) xs ys o
   owes-then b e h = owes-is room at w xs ys o (ap (λ (c : Bool). gives (cond c t u)) e) h
 
-  pub owes-else : (b : Bool) → b ≡ false → Owes room at w (gives u) xs ys o → Owes room at w (gives (cond b t u)) xs ys o
+  pub owes-else :
+      (b : Bool) → b ≡ false → Owes room at w (gives u) xs ys o → Owes room at w (gives (cond b t u)) xs ys o
   owes-else b e h = owes-is room at w xs ys o (ap (λ (c : Bool). gives (cond c t u)) e) h
 
 module _ (room at w : ℕ) (r : Row) (xs : List ℤ) (wide : length r ≡ w) where
@@ -83,13 +86,15 @@ module _ (room at w : ℕ) (r : Row) (xs : List ℤ) (wide : length r ≡ w) whe
 module _ (room at a w : ℕ) (z : ℤ) (xs : List ℤ) (inside : a + w ≤ length xs) where
   pub attached-full :
       room < at + (w + 1) → Owes room at (w + 1) (gives ((row xs a w ++ (z ∷ [])) ∷ [])) xs xs Full
-  attached-full h = one-full room at (w + 1) (row xs a w ++ (z ∷ [])) xs (length-snoc (row xs a w) z w (length-row xs a w inside)) h
+  attached-full h =
+      one-full room at (w + 1) (row xs a w ++ (z ∷ [])) xs (length-snoc (row xs a w) z w (length-row xs a w inside)) h
 
   pub attached-laid :
       (ys : List ℤ) (v : ℤ) → at + w < room → room ≤ length xs → ys ≡ laid xs at (row xs a w) → v ≡ z →
       Owes room at (w + 1) (gives ((row xs a w ++ (z ∷ [])) ∷ [])) xs (set ys (at + w) v) (Rows 1)
   attached-laid ys v h k e i =
-      one-laid room at (w + 1) (row xs a w ++ (z ∷ [])) xs (length-snoc (row xs a w) z w (length-row xs a w inside)) (set ys (at + w) v)
+      one-laid room at (w + 1) (row xs a w ++ (z ∷ [])) xs (length-snoc (row xs a w) z w (length-row xs a w inside))
+      (set ys (at + w) v)
       (omega arith)
       (ap (set ys (at + w)) i ∙ set-more xs ys at w (row xs a w) z e (length-row xs a w inside) (omega arith))
 
@@ -115,7 +120,8 @@ none-laid room at w xs h =
 -- rows that stand on a cell that is worked out first
 module _ (room at w : ℕ) (o : Attempt ℤ) (g : ℤ → Attempt Table) (xs : List ℤ) where
   pub owes-cell :
-      (z v : ℤ) (ys : List ℤ) (l : Laid) → gives z ≡ o → v ≡ z → Owes room at w (g v) xs ys l → Owes room at w (attempt o g) xs ys l
+      (z v : ℤ) (ys : List ℤ) (l : Laid) → gives z ≡ o → v ≡ z → Owes room at w (g v) xs ys l
+      → Owes room at w (attempt o g) xs ys l
   unfolding attempt
   owes-cell z v ys l e d h = owes-is room at w xs ys l (ap (λ (a : Attempt ℤ). attempt a g) (sym e) ∙ ap g (sym d)) h
 
@@ -125,7 +131,8 @@ module _ (room at w : ℕ) (o : Attempt ℤ) (g : ℤ → Attempt Table) (xs : L
 
 -- rows that are made where a test holds
 module _ (room at w : ℕ) (b : Bool) (m : Attempt Table) (xs : List ℤ) where
-  pub owes-provided : (ys : List ℤ) (o : Laid) → b ≡ true → Owes room at w m xs ys o → Owes room at w (provided b m) xs ys o
+  pub owes-provided :
+      (ys : List ℤ) (o : Laid) → b ≡ true → Owes room at w m xs ys o → Owes room at w (provided b m) xs ys o
   unfolding provided
   owes-provided ys o e h = owes-is room at w xs ys o (ap (λ (t : Bool). provided t m) e) h
 

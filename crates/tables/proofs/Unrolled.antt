@@ -4,21 +4,17 @@
 --     table-rows, past-first   a table and its cells
 --     any-found, any-next, any-none     a search through the rows of a table
 --     all-failed, all-next, all-none    a test of all the rows of a table
---     restSame xs a b w i      the rows of width w at a and b are equal from cell i on
---     cells-all, cells-same, cells-differ, cells-through     .. from the start, and cell by cell
-use Prim.Native.Nat.{ℕ, zero, suc, _+_, _-_, _*_, _≤_, _<_}
-use mathlib.Core.Path.{_≡_, sym, ap, ap₂, _∙_}
+use Prim.Native.Nat.{ℕ, zero, suc, _+_, _-_, _*_, _<_}
+use mathlib.Core.Path.{_≡_, sym, ap, _∙_}
 use mathlib.Core.List.{List, [], _∷_}
 use mathlib.Core.Bool.{Bool, true, false, _||_, _&&_}
 use native.Mathlib.Omega.{arith}
-use native.Mathlib.Nat.{suc-mul, add-zero, sub-zero}
-use lib.IntN.{ℤ, pos}
+use native.Mathlib.Nat.{suc-mul}
+use lib.IntN.{ℤ}
 use lib.ListN.{length, getD, take}
 use lib.Seq.{drop-cons}
-use Rattle.cells.specs.Cell.{same}
 use Rattle.laws.specs.Lists.{any, all}
 use Rattle.laws.specs.Rows.{row, rowsAt}
-use Rattle.meaning.specs.Operators.{sameRow}
 use Rattle.tables.specs.declared.Stand.{Stand}
 use Rattle.tables.specs.Layout.{tableAt}
 
@@ -75,34 +71,3 @@ module _ {A : Type 0} where
     pub all-none : n ≡ 0 → all p (rowsAt xs a n w) ≡ true
     unfolding all
     all-none e = ap (all p) (rows-none xs a n w e)
-
--- the rows of width w at a and b, from cell i on
-abbrev pub restSame : List ℤ → (a b w i : ℕ) → Bool
-restSame xs a b w i = sameRow (row xs (a + i) (w - i)) (row xs (b + i) (w - i))
-
-module _ (xs : List ℤ) (a b w : ℕ) where
-  pub cells-all : restSame xs a b w 0 ≡ sameRow (row xs a w) (row xs b w)
-  cells-all = simp (add-zero, sub-zero)
-
-  module _ (i : ℕ) (here : i < w) (insideA : a + w ≤ length xs) (insideB : b + w ≤ length xs) where
-    cells-split : restSame xs a b w i ≡ (same (getD xs (a + i) (pos 0)) (getD xs (b + i) (pos 0)) && restSame xs a b w (i + 1))
-    unfolding sameRow
-    cells-split =
-        let e : w - i ≡ suc (w - (i + 1)) = omega arith in
-        let f : suc (a + i) ≡ a + (i + 1) = omega arith in
-        let g : suc (b + i) ≡ b + (i + 1) = omega arith in
-        ap (λ (n : ℕ). sameRow (row xs (a + i) n) (row xs (b + i) n)) e
-        ∙ ap₂ sameRow (row-head xs (a + i) (w - (i + 1)) (pos 0) (omega arith)) (row-head xs (b + i) (w - (i + 1)) (pos 0) (omega arith))
-        ∙ ap₂ (λ (m n : ℕ). same (getD xs (a + i) (pos 0)) (getD xs (b + i) (pos 0)) && sameRow (row xs m (w - (i + 1))) (row xs n (w - (i + 1)))) f g
-
-    pub cells-same : same (getD xs (a + i) (pos 0)) (getD xs (b + i) (pos 0)) ≡ true → restSame xs a b w i ≡ restSame xs a b w (i + 1)
-    cells-same e = cells-split ∙ ap (λ (t : Bool). t && restSame xs a b w (i + 1)) e
-
-    pub cells-differ : same (getD xs (a + i) (pos 0)) (getD xs (b + i) (pos 0)) ≡ false → restSame xs a b w i ≡ false
-    cells-differ e = cells-split ∙ ap (λ (t : Bool). t && restSame xs a b w (i + 1)) e
-
-  pub cells-through : (i : ℕ) → i ≡ w → restSame xs a b w i ≡ true
-  unfolding sameRow row
-  cells-through i e =
-      let z : w - i ≡ 0 = omega arith in
-      ap (λ (n : ℕ). sameRow (row xs (a + i) n) (row xs (b + i) n)) z

@@ -2,8 +2,11 @@
 --     tableAt xs s         the table that stands where s says
 --     Inside top s         it stands whole below cell `top`
 --     Wide w t             every row of t has width w
---     Owes ..              what an operator answers and leaves, where `made` is what its definition makes: its rows laid exactly
---                          at `at`; or that they pass the room; or that it fails
+--     Written ..           the rows that an operator made are laid exactly at `at`, within the room
+--     Passes ..            the rows that it made pass the room
+--     Failed ..            it made none: it fails
+--     Owes room at w made entry exit answer
+--         what an operator answers and leaves, where `made` is what its definition makes: one of these three
 use Prim.Native.Nat.{ℕ, _+_, _*_, _≤_, _<_}
 use mathlib.Core.Path.{_≡_}
 use mathlib.Core.List.{List, [], _∷_}
@@ -36,7 +39,7 @@ pub record Written (room at w n : ℕ) (made : Attempt Table) (entry exit : List
   pub fits : at + n * w ≤ room
   pub cells-are : exit ≡ laid entry at (flat table)
 
--- the table that was made passes the room; what stands below `at` is as it was
+-- the table that was made passes the room; the cells stay as many
 pub record Passes (room at w : ℕ) (made : Attempt Table) (entry exit : List ℤ) : Type 0 where
   pub table : Table
   pub made-is : made ≡ gives table

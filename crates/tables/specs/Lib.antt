@@ -1,3 +1,3 @@
 pub mod Layout
-pub mod Tasks
+pub mod Laying
 pub mod Order

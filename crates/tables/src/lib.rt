@@ -1,13 +1,11 @@
-// The operators over tables laid end to end in lent cells.
-pub mod added;
-pub mod each;
-pub mod join;
-pub mod once;
-pub mod rows;
-pub mod search;
-pub mod whole;
+// Tables laid end to end in lent cells: where one stands, what an operator answers, and how the cells of a column are
+// ordered.
+pub mod order;
 
-use cells::Function;
+ghost use mathlib.Core.Path.{_≡_};
+ghost use Prim.Native.Nat.{_+_, _≤_};
+ghost use lib.ListN.{length};
+ghost use Rattle.laws.specs.Rows.{row, laid};
 
 // Where a table stands: its first cell, its rows and its width.
 pub struct Stand {
@@ -23,13 +21,14 @@ pub enum Laid {
     Fails,
 }
 
-// What a row-wise operator does with each row. The columns of Project stand in the plan's bytes: how many, and from where on.
-pub enum Task {
-    Attach(i64),
-    Project(usize, usize),
-    Minus(Stand),
-    Select(usize),
-    Join(usize, Stand, usize),
-    Apply(Function, usize, usize),
-    Value(usize),
+// Copies n cells that stand below `to` to there.
+pub fn copy(work: &mut [i64], from: usize, n: usize, to: usize)
+    requires { ⌜ (from + n ≤ to) × (to + n ≤ length (now work)) ⌝ }
+    ensures { λ r. ⌜ now (work .exit) ≡ laid (now (work .entry)) to (row (now (work .entry)) from n) ⌝ }
+{
+    let mut i: usize = 0;
+    while i < n {
+        work[to + i] = work[from + i];
+        i += 1;
+    }
 }

@@ -16,7 +16,7 @@ use native.Mathlib.Omega.{arith}
 use lib.ListN.{length, length-append}
 use Rattle.meaning.specs.Query.{Query, QI}
 use Rattle.meaning.specs.Translation.{Tables, tr, then, lifts, lifted, freeIn, headF, headI}
-use Rattle.theorems.proofs.Closed.{records}
+use Rattle.theorems.specs.Closed.{records}
 use Rattle.theorems.proofs.PlanBound.{tr-bound, length-lifts, length-freeIn}
 use Rattle.queries.specs.Parse.{Parsed}
 use Rattle.rules.specs.declared.Pen.{Pen}

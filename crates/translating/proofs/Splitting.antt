@@ -10,7 +10,7 @@ use native.Mathlib.Omega.{arith}
 use Rattle.laws.specs.Attempt.{gives}
 use Rattle.meaning.specs.Query.{Query}
 use Rattle.meaning.specs.Translation.{Made, Tables, tr}
-use Rattle.theorems.proofs.Closed.{records}
+use Rattle.theorems.specs.Closed.{records}
 use Rattle.laws.proofs.Outcomes.{gives-same}
 use Rattle.queries.specs.Parse.{Parsed, lone, pair, triple}
 use Rattle.queries.proofs.Parsing.{lone-gives, pair-gives, triple-gives}

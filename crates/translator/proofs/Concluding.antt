@@ -23,7 +23,7 @@ use Rattle.meaning.specs.Translation.{next, tr, tailLast, plan}
 use Rattle.meaning.specs.Written.{written}
 use Rattle.meaning.specs.Calls.{Answer, Outcome, refusal, refused, planOf, translateOutcome, translateCall}
 use Rattle.laws.specs.Rows.{padded}
-use Rattle.theorems.proofs.Closed.{records}
+use Rattle.theorems.specs.Closed.{records}
 use Rattle.queries.specs.declared.Checked.{Checked}
 use Rattle.queries.specs.declared.Checked.the-variants as Checked
 use Rattle.queries.specs.Decoded as Queries

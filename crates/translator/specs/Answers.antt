@@ -10,7 +10,7 @@ use lib.ListN.{length}
 use Rattle.meaning.specs.Query.{Query}
 use Rattle.laws.specs.Attempt.{gives}
 use Rattle.meaning.specs.Calls.{Answer, refused, planOf, translateOutcome}
-use Rattle.theorems.proofs.Closed.{records}
+use Rattle.theorems.specs.Closed.{records}
 use Rattle.queries.specs.declared.Checked.{Checked}
 use Rattle.queries.specs.Decoded as Queries
 use Rattle.queries.specs.Parse.{parse}

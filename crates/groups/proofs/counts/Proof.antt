@@ -3,7 +3,7 @@ use mathlib.Core.Path.{refl}
 use native.Mathlib.Omega.{arith}
 use Rattle.tables.specs.Layout.{Inside}
 use Rattle.tables.proofs.Promise.{owes-is}
-use Rattle.groups.specs.Gathered.{Suits, columnOf}
+use Rattle.groups.specs.Gathered.{Asks, columnOf}
 use Rattle.groups.proofs.Gathering.{counts-is, counts-settled}
 use borrow.Author.Needs.{needs}
 use Rattle.groups.proofs.counts.Statement.{statement}
@@ -23,7 +23,7 @@ slice-aggregate-each-group-3 : tie.Need-slice-aggregate-each-group-3
 slice-aggregate-each-group-3 c = refl
 
 each-group-requires : tie.Need-each-group-requires
-unfolding Suits columnOf
+unfolding Asks columnOf
 each-group-requires c κs =
     let climbing = c .before .before .before .before in
     let start = climbing .before .before in (

@@ -1,17 +1,22 @@
--- `groups::steps` meets its contract: it fails where some cell of column 1 is no node, and lays the rows where each is one.
+-- `groups::steps` meets its contract: it fails where some cell of column 1 is no node, and lays the rows where each
+-- is one.
 use mathlib.Core.Path.{refl, sym, _∙_}
 use native.Mathlib.Omega.{arith}
 use borrow.Author.Tests.{not-true, not-false}
 use Rattle.meaning.specs.Catalogue.{catalogueOf}
 use Rattle.tables.specs.Layout.{tableAt, Inside, Owes}
 use Rattle.tables.proofs.Promise.{owes-is}
-use Rattle.groups.specs.Gathered.{Suits, columnOf}
+use Rattle.groups.specs.Gathered.{Asks, columnOf}
 use Rattle.groups.proofs.Turns.{settled-yes, failed-no}
-use Rattle.members.proofs.Nodes.{rows-of}
+use Rattle.stepping.proofs.Nodes.{rows-of}
 use Rattle.groups.proofs.Gathering.{steps-is, steps-succeed}
 use borrow.Author.Needs.{needs}
 use Rattle.groups.proofs.steps.Statement.{statement}
 use Rattle.groups.proofs.steps.Tie as tie
+
+-- places on the way
+abbrev start-of : tie.After-all-nodes → tie.Start
+start-of c = c .before .before .before .before .before
 
 all-nodes-requires : tie.Need-all-nodes-requires
 unfolding Inside
@@ -23,7 +28,7 @@ same-length c = search needs
 returns : tie.Need-returns
 unfolding Owes
 returns c =
-    let start = c .before .before .before .before .before .before in
+    let start = start-of (c .before) in
     let d = catalogueOf (start .args .doc .now) (start .args .rows) in
     record {
       made-is =
@@ -39,11 +44,11 @@ unfolding Inside
 climbs-requires c κs = (omega arith, omega arith)
 
 each-group-requires : tie.Need-each-group-requires
-unfolding Suits columnOf
+unfolding Asks columnOf
 each-group-requires c κs =
     let climbing = c .before .before .before in
     let else = climbing .before .before in
-    let start = else .before .before .before .before .before .before in
+    let start = start-of (else .before) in
     let d = catalogueOf (start .args .doc .now) (start .args .rows) in (
       (start .pre .0 .0, start .pre .0 .1, start .pre .0 .2),
       (
@@ -51,7 +56,8 @@ each-group-requires c κs =
         (
           climbing .climbs .ensures,
           settled-yes _
-              (steps-succeed d (start .args .axis) (start .args .test) (tableAt (start .args .work .now) (start .args .s))
+              (steps-succeed d (start .args .axis) (start .args .test)
+              (tableAt (start .args .work .now) (start .args .s))
               ∙ sym (else .before .all-nodes .ensures d (rows-of _ _)) ∙ not-false _ (else .if1 .left)),
         ),
       ),

@@ -5,7 +5,7 @@ use borrow.Author.Tests.{not-true, not-false}
 use Rattle.meaning.specs.Catalogue.{catalogueOf}
 use Rattle.tables.specs.Layout.{Inside, Owes}
 use Rattle.tables.proofs.Promise.{owes-is}
-use Rattle.groups.specs.Gathered.{Suits, columnOf}
+use Rattle.groups.specs.Gathered.{Asks, columnOf}
 use Rattle.groups.proofs.Turns.{settled-yes, failed-no}
 use Rattle.groups.proofs.Gathering.{truths-is}
 use borrow.Author.Needs.{needs}
@@ -30,7 +30,8 @@ returns c =
     record {
       made-is =
           truths-is _ _
-          ∙ failed-no _ (sym (c .before .settles .ensures (catalogueOf (start .args .doc .now) (start .args .rows))) ∙ not-true _ (c .if1 .taken));
+          ∙ failed-no _ (sym (c .before .settles .ensures (catalogueOf (start .args .doc .now) (start .args .rows)))
+          ∙ not-true _ (c .if1 .taken));
       long = refl;
     }
 
@@ -41,7 +42,7 @@ slice-aggregate-each-group-2 : tie.Need-slice-aggregate-each-group-2
 slice-aggregate-each-group-2 c = refl
 
 each-group-requires : tie.Need-each-group-requires
-unfolding Suits columnOf
+unfolding Asks columnOf
 each-group-requires c κs =
     let else = c .before .before .before in
     let climbing = else .before .before .before in
@@ -52,7 +53,8 @@ each-group-requires c κs =
         (
           climbing .climbs .ensures,
           settled-yes _
-              (sym (else .before .settles .ensures (catalogueOf (start .args .doc .now) (start .args .rows))) ∙ not-false _ (else .if1 .left)),
+              (sym (else .before .settles .ensures (catalogueOf (start .args .doc .now) (start .args .rows)))
+              ∙ not-false _ (else .if1 .left)),
         ),
       ),
     )

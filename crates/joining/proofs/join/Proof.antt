@@ -1,5 +1,5 @@
--- `joining::join` meets its contract. The invariant: the rows of s before a are joined and laid (`Laying`), and `from` is a place
--- among u's rows. The measure is how many rows of s are left.
+-- `joining::join` meets its contract. The invariant: the rows of s before a are joined and laid (`Laying`), and
+-- `from` is a place among u's rows. The measure is how many rows of s are left.
 use Prim.Native.Nat.{_+_, _-_, _*_, _≤_}
 use mathlib.Core.Path.{_≡_, sym, ap, _∙_, subst}
 use native.Mathlib.Omega.{arith}
@@ -14,12 +14,15 @@ use Rattle.meaning.specs.Operators.{Table, cell, column}
 use Rattle.tables.specs.declared.Laid.the-variants.{Rows}
 use Rattle.tables.specs.Layout.{Owes, Inside, tableAt}
 use Rattle.tables.proofs.Promise.{owes-is}
-use Rattle.tables.proofs.Columns.{cell-read}
+use Rattle.tables.proofs.Reading.{cell-read}
 use Rattle.tables.proofs.Unrolled.{past-first}
-use Rattle.tables.proofs.Laying.{Laying, counted-fits, length-laying, laying-start, row-more, row-stopped, rows-laid}
-use Rattle.joining.specs.Narrowed.{climbs}
+use Rattle.tables.proofs.Laying.{counted-fits, length-laying, laying-start, row-more, row-stopped, rows-laid}
+use Rattle.tables.specs.Laying.{Laying}
+use Rattle.tables.specs.Order.{climbs}
 use Rattle.joining.proofs.Narrowing.{narrows-cell}
-use Rattle.joining.proofs.Joining.{joinedRow, join-each, join-settled, joined-laid, table-below, inside-up}
+use Rattle.joining.proofs.Joining.{join-each, join-settled, joined-laid}
+use Rattle.joining.specs.Joined.{joinedRow}
+use Rattle.tables.proofs.Standing.{table-below, inside-up}
 use borrow.Author.Needs.{needs}
 use Rattle.joining.proofs.join.Statement.{statement}
 use Rattle.joining.proofs.join.Tie as tie
@@ -33,6 +36,16 @@ Inv-loop work₀ c u d at room w v step climbing a₀ left₀ top₀ n₀ from�
 
 abbrev μ-loop : tie.MeasureT-loop
 μ-loop work₀ c u d at room w v step climbing a₀ left₀ top₀ n₀ from₀ work a left top n from = left
+
+-- places on the way
+abbrev loop-of : tie.After-work Inv-loop μ-loop → tie.At-loop Inv-loop μ-loop
+loop-of c = c .before .before .before .before .before .before .before
+
+abbrev turn-of : tie.After-work Inv-loop μ-loop → tie.In-loop Inv-loop μ-loop
+turn-of c = c .before .before .before .before .before .before
+
+abbrev part-of : tie.After-known-told Inv-loop μ-loop → tie.After-part Inv-loop μ-loop
+part-of c = c .before .before .before .before .before .before
 
 add-step : tie.Need-add-step Inv-loop μ-loop
 add-step c = omega arith
@@ -83,7 +96,8 @@ part-requires : tie.Need-part-requires Inv-loop μ-loop
 part-requires c κs =
     let at = c .before .before .before in (
       (inside-up _ _ _ (omega (arith, long at)) (at .before .before .before .pre .1), omega arith, omega arith),
-      at .before .climbs .ensures ∙ ap (λ (t : Table). climbs (column t (at .before .before .before .args .d))) (sym (other at)),
+      at .before .climbs .ensures
+          ∙ ap (λ (t : Table). climbs (column t (at .before .before .before .args .d))) (sym (other at)),
     )
 
 join-part-requires : tie.Need-join-part-requires Inv-loop μ-loop
@@ -98,14 +112,14 @@ join-part-requires c κs =
 
 -- what the turn owes, as the rows stood at entry
 owed : (c : tie.After-work Inv-loop μ-loop) →
-    let at = c .before .before .before .before .before .before .before in
+    let at = loop-of c in
     let g = at .before .before .before .args in
     Owes (g .room) (at .loop .top) (g .s .width + g .u .width)
     (joinedRow (g .work .now) (g .u) (g .c) (g .d) (row (g .work .now) (at .loop .a) (g .s .width)))
     (at .loop .work) (c .before .join-part .last .0) (c .before .join-part .result)
 unfolding joinedRow
 owed c =
-    let in-loop = c .before .before .before .before .before .before in
+    let in-loop = turn-of c in
     let at = in-loop .before in
     owes-is _ _ _ _ _ _
     (joined-laid _ _ _ _ (at .loop .inv .2 .cells-are) (omega arith) _ _ _ _ _ (omega (arith, first in-loop))
@@ -114,7 +128,7 @@ owed c =
 
 owed-rows : (c : tie.After-known-told Inv-loop μ-loop) →
     let work = c .before .before .before in
-    let at = work .before .before .before .before .before .before .before in
+    let at = loop-of work in
     let g = at .before .before .before .args in
     Owes (g .room) (at .loop .top) (g .s .width + g .u .width)
     (joinedRow (g .work .now) (g .u) (g .c) (g .d) (row (g .work .now) (at .loop .a) (g .s .width)))
@@ -122,33 +136,35 @@ owed-rows : (c : tie.After-known-told Inv-loop μ-loop) →
 owed-rows c = subst (Owes _ _ _ _ _ _) (c .before .laid .given .1) (owed (c .before .before .before))
 
 room-left : (c : tie.After-known-told Inv-loop μ-loop) →
-    let at = c .before .before .before .before .before .before .before .before .before .before in
+    let at = loop-of (c .before .before .before) in
     let g = at .before .before .before .args in
     at .loop .top + c .before .laid .given .0 .0 * (g .s .width + g .u .width) ≤ g .room
 unfolding Owes
 room-left c = owed-rows c .fits
 
 counted : (c : tie.After-known-told Inv-loop μ-loop) →
-    let at = c .before .before .before .before .before .before .before .before .before .before in
+    let at = loop-of (c .before .before .before) in
     at .loop .n + c .before .laid .given .0 .0 ≤ at .before .before .before .args .room
 counted c =
-    let at = c .before .before .before .before .before .before .before .before .before .before in
-    counted-fits _ _ _ _ _ _ (omega (arith, at .before .before .before .pre .6)) (at .loop .inv .2 .top-is) (room-left c)
+    let at = loop-of (c .before .before .before) in
+    counted-fits _ _ _ _ _ _ (omega (arith, at .before .before .before .pre .6)) (at .loop .inv .2 .top-is)
+    (room-left c)
 
 enum-known-laid : tie.Need-enum-known-laid Inv-loop μ-loop
 enum-known-laid c = search needs
 
 same-length : tie.Need-same-length Inv-loop μ-loop
 same-length c =
-    c .before .before .join-part .kept .0 ∙ long (c .before .before .before .before .before .before .before .before)
+    c .before .before .join-part .kept .0 ∙ long (loop-of (c .before))
 
 returns : tie.Need-returns Inv-loop μ-loop
 unfolding tableAt
 returns c =
-    let in-loop = c .before .before .before .before .before .before .before in
+    let in-loop = turn-of (c .before) in
     let at = in-loop .before in
     owes-is _ _ _ _ _ _ (join-each _ _ _ _ _)
-    (row-stopped _ _ _ _ _ _ _ _ _ _ _ _ (in-loop .loop-test .taken) (omega arith) (at .loop .inv .2) _ _ (c .match .keys2)
+    (row-stopped _ _ _ _ _ _ _ _ _ _ _ _ (in-loop .loop-test .taken) (omega arith) (at .loop .inv .2) _ _
+    (c .match .keys2)
     (join-settled _ _ _ _ _) (owed (c .before)))
 
 mul-top : tie.Need-mul-top Inv-loop μ-loop
@@ -161,7 +177,7 @@ add-n : tie.Need-add-n Inv-loop μ-loop
 add-n c = omega (arith, counted c)
 
 add-a : tie.Need-add-a Inv-loop μ-loop
-add-a c = omega (arith, first (c .before .before .before .before .before .before .before .before .before))
+add-a c = omega (arith, first (turn-of (c .before .before .before)))
 
 sub-left : tie.Need-sub-left Inv-loop μ-loop
 sub-left c = omega arith
@@ -171,8 +187,8 @@ loop-less c = omega arith
 
 loop-again : tie.Need-loop-again Inv-loop μ-loop
 loop-again c =
-    let in-loop = c .before .before .before .before .before .before .before .before .before in
-    let found = c .before .before .before .before .before .before in
+    let in-loop = turn-of (c .before .before .before) in
+    let found = part-of c in
     let at = in-loop .before in (
       omega (arith, first in-loop),
       omega (arith, found .part .ensures .ordered, found .part .ensures .within),
@@ -185,7 +201,8 @@ same-length-2 c = long (c .before)
 returns-2 : tie.Need-returns-2 Inv-loop μ-loop
 unfolding tableAt
 returns-2 c =
-    owes-is _ _ _ _ _ _ (join-each _ _ _ _ _) (rows-laid _ _ _ _ _ _ _ _ _ _ _ _ (omega arith) (c .before .loop .inv .2))
+    owes-is _ _ _ _ _ _ (join-each _ _ _ _ _)
+    (rows-laid _ _ _ _ _ _ _ _ _ _ _ _ (omega arith) (c .before .loop .inv .2))
 
 pub join-spec : {M : Type 1} → statement M
 join-spec =

@@ -1,13 +1,17 @@
 -- `numbering::number` meets its contract: what follows from the room, then what `arrange` and `lay` leave.
 use Prim.Native.Nat.{_+_, _*_, _≤_, _<_}
 use Rattle.tables.specs.Layout.{Inside}
-use Rattle.numbering.proofs.Sorted.{column-p, numbers-within}
+use Rattle.numbering.proofs.Sorted.{column-p, numbers-within, number-within}
 use native.Mathlib.Omega.{arith}
 use Rattle.numbering.specs.Order.{Low}
 use Rattle.numbering.proofs.Owed.{positive, owed-none, owed-full, owed-laid, low, product, few}
 use borrow.Author.Needs.{needs}
 use Rattle.numbering.proofs.number.Statement.{statement}
 use Rattle.numbering.proofs.number.Tie as tie
+
+-- places on the way
+abbrev arrange-of : tie.After-lay-arg2 → tie.After-arrange
+arrange-of c = c .before .before .before .before .before .before
 
 -- sizes that follow from the room, once there is a row
 some-row : (c : tie.Else1) → 0 < c .before .before .before .args .s .rows
@@ -60,7 +64,7 @@ arrange-requires c κs =
 lay-requires : tie.Need-lay-requires
 unfolding Inside
 lay-requires c κs =
-    let sorted = c .before .before .before .before .before .before in
+    let sorted = arrange-of c in
     let fitting = sorted .before .before .before .before in
     let rows = fitting .before .before in
     let f = rows .before .before .before .pre in
@@ -72,7 +76,9 @@ lay-requires c κs =
       inside = f .0 .0;
       room = omega (arith, room-here fitting, f .0 .2);
       numbers = omega (arith, sorted .arrange .kept, f);
-      within = numbers-within _ _ _ _ (f .1 .0) _ (sorted .arrange .ensures);
+      within =
+          number-within _ _ (omega (arith, sorted .arrange .kept, f))
+          (numbers-within _ _ _ _ (f .1 .0) _ (sorted .arrange .ensures));
       column = column-p _ _ _ (f .1 .0);
     }
 
@@ -88,7 +94,7 @@ same-length-3 c = search needs
 returns-3 : tie.Need-returns-3
 unfolding Inside
 returns-3 c =
-    let sorted = c .before .before .before .before .before .before .before .before in
+    let sorted = arrange-of (c .before .before) in
     let fitting = sorted .before .before .before .before in
     let start = fitting .before .before .before .before .before in
     owed-laid _ _ _ (start .args .keys) _ _ (start .pre .1 .0) _ _ (omega (arith, start .pre)) (room-here fitting)

@@ -3,7 +3,7 @@ use native.Mathlib.Omega.{arith}
 use mir.Syntax.{w64}
 use mir.Val.{SFits}
 use mir.Facts.{toZ-ofZ}
-use Rattle.tables.specs.Tasks.{Suits, wider}
+use Rattle.rowwise.specs.Tasks.{Suits, wider}
 use Rattle.plans.specs.Accepted.{Suited}
 use Rattle.plans.specs.Widths.{tablesOf}
 use Rattle.directory.specs.Sound.{SoundOf, Sound}

@@ -2,7 +2,7 @@
 use mathlib.Core.Path.{sym, ap}
 use Rattle.items.specs.declared.Judged.{Judged}
 use Rattle.items.specs.Answers.{judged}
-use Rattle.tables.specs.Tasks.{succeeds}
+use Rattle.tables.specs.Laying.{succeeds}
 use borrow.Author.Needs.{needs}
 use Rattle.groups.proofs.each.is_judged.Statement.{statement}
 use Rattle.groups.proofs.each.is_judged.Tie as tie

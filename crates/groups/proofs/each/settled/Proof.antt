@@ -3,7 +3,7 @@ use mathlib.Core.Path.{sym, ap, _∙_}
 use native.Mathlib.Omega.{arith}
 use borrow.Author.Tests.{not-true, not-false}
 use Rattle.tables.specs.Layout.{Inside}
-use Rattle.tables.specs.Tasks.{succeeds}
+use Rattle.tables.specs.Laying.{succeeds}
 use Rattle.groups.specs.Gathered.{columnOf}
 use Rattle.groups.specs.declared.Gather.the-variants.{Truth}
 use Rattle.meaning.specs.World.{worldOf}
@@ -24,8 +24,10 @@ returns c =
 
 part-requires : tie.Need-part-requires
 part-requires c κs =
-    let start = c .before .before in
-    ((start .pre .0 .0, omega arith, start .pre .0 .2), (start .pre .1, sym (c .before .opens .ensures) ∙ not-false _ (c .if1 .left)))
+    let start = c .before .before in (
+      (start .pre .0 .0, omega arith, start .pre .0 .2),
+      (start .pre .1, sym (c .before .opens .ensures) ∙ not-false _ (c .if1 .left)),
+    )
 
 group-truth-requires : tie.Need-group-truth-requires
 unfolding Inside

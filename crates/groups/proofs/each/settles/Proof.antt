@@ -1,5 +1,5 @@
--- `groups::each::settles` meets its contract. The invariant: the turns from row i on succeed exactly where all do. The measure is how
--- many rows are left.
+-- `groups::each::settles` meets its contract. The invariant: the turns from row i on succeed exactly where all do.
+-- The measure is how many rows are left.
 use Prim.Native.Nat.{_-_, _<_}
 use mathlib.Core.Path.{_≡_, sym, _∙_}
 use native.Mathlib.Omega.{arith}
@@ -9,10 +9,10 @@ use Rattle.laws.specs.Lists.{all}
 use Rattle.meaning.specs.Catalogue.{Catalogue}
 use Rattle.meaning.specs.World.{worldOf}
 use Rattle.tables.specs.Layout.{tableAt}
-use Rattle.tables.specs.Tasks.{succeeds}
+use Rattle.tables.specs.Laying.{succeeds}
 use Rattle.groups.specs.declared.Gather.the-variants.{Truth}
 use Rattle.groups.specs.Gathered.{whole}
-use Rattle.members.proofs.Reading.{length-table}
+use Rattle.tables.proofs.Reading.{length-table}
 use Rattle.groups.proofs.Turns.{rest}
 use Rattle.groups.proofs.Passing.{tests-first, tests-fails, tests-more, tests-end}
 use borrow.Author.Needs.{needs}
@@ -21,7 +21,8 @@ use Rattle.groups.proofs.each.settles.Tie as tie
 
 abbrev Inv-loop : tie.InvT-loop
 Inv-loop work s up i₀ i =
-    (d : Catalogue) → all succeeds (rest Truth (worldOf d) (tableAt work s) i) ≡ succeeds (whole Truth (worldOf d) (tableAt work s))
+    (d : Catalogue)
+    → all succeeds (rest Truth (worldOf d) (tableAt work s) i) ≡ succeeds (whole Truth (worldOf d) (tableAt work s))
 
 abbrev μ-loop : tie.MeasureT-loop
 μ-loop work s up i₀ i = s .rows - i
@@ -46,7 +47,8 @@ returns c =
     let at = then .before .before in
     let t = tableAt (at .before .args .work .now) (at .before .args .s) in
     λ d.
-    sym (tests-fails Truth (worldOf d) t (at .loop .i) (here then) (sym (c .before .settled .ensures d) ∙ not-true _ (c .if2 .taken)))
+    sym (tests-fails Truth (worldOf d) t (at .loop .i) (here then)
+    (sym (c .before .settled .ensures d) ∙ not-true _ (c .if2 .taken)))
     ∙ at .loop .inv d
 
 add-i : tie.Need-add-i Inv-loop μ-loop
@@ -61,7 +63,8 @@ loop-again c =
     let at = then .before .before in
     let t = tableAt (at .before .args .work .now) (at .before .args .s) in
     λ d.
-    sym (tests-more Truth (worldOf d) t (at .loop .i) (here then) (sym (c .before .settled .ensures d) ∙ not-false _ (c .if2 .left)))
+    sym (tests-more Truth (worldOf d) t (at .loop .i) (here then)
+    (sym (c .before .settled .ensures d) ∙ not-false _ (c .if2 .left)))
     ∙ at .loop .inv d
 
 returns-2 : tie.Need-returns-2 Inv-loop μ-loop
@@ -69,7 +72,8 @@ returns-2 c =
     let at = c .before .before in
     let t = tableAt (at .before .args .work .now) (at .before .args .s) in
     λ d.
-    sym (tests-end Truth (worldOf d) t (at .loop .i) (omega (arith, length-table (at .before .args .work .now) (at .before .args .s))))
+    sym (tests-end Truth (worldOf d) t (at .loop .i)
+    (omega (arith, length-table (at .before .args .work .now) (at .before .args .s))))
     ∙ at .loop .inv d
 
 pub settles-spec : {M : Type 1} → statement M

@@ -6,7 +6,8 @@ use lib.ListN.{length}
 use mir.Facts.{toZ-ofZ}
 use Rattle.meaning.specs.Operators.{column}
 use Rattle.tables.specs.Layout.{tableAt}
-use Rattle.joining.proofs.Climbing.{front-none, front-to, back-more, back-end, length-table}
+use Rattle.joining.proofs.Passing.{front-none, front-to, back-more, back-end}
+use Rattle.tables.proofs.Reading.{length-rows}
 use Rattle.joining.proofs.Narrowing.{front-cell}
 use Rattle.joining.proofs.search.first.Statement.{statement}
 use Rattle.joining.proofs.search.first.Tie as tie
@@ -14,7 +15,7 @@ use Rattle.joining.proofs.search.first.Tie as tie
 -- the row above `from`
 there : (c : tie.Start) → 1 ≤ c .args .from
     → c .args .from - 1 < length (column (tableAt (c .args .work .now) (c .args .u)) (c .args .d))
-there c h = omega (arith, length-table (c .args .work .now) (c .args .u) (c .args .d))
+there c h = omega (arith, length-rows (c .args .work .now) (c .args .u) (c .args .d))
 
 search-requires : tie.Need-search-requires
 search-requires c κs =
@@ -36,7 +37,8 @@ search-requires-2 c κs =
       (
         start .pre .1,
         (
-          front-to _ _ _ (start .pre .1) _ (there start (omega arith)) _ (omega arith) (sym (c .before .passes .ensures) ∙ c .if2 .taken),
+          front-to _ _ _ (start .pre .1) _ (there start (omega arith)) _ (omega arith)
+              (sym (c .before .passes .ensures) ∙ c .if2 .taken),
           back-end _ _ _ _ _ _ refl,
         ),
       ),
@@ -44,7 +46,11 @@ search-requires-2 c κs =
 
 returns-2 : tie.Need-returns-2
 returns-2 c =
-    let start = c .before .before .before .before in (omega arith, front-cell _ _ (toZ-ofZ (start .fits .x)) _ _ _ (c .search2 .ensures .1 .0))
+    let start =
+    c .before .before .before .before in (
+      omega arith,
+      front-cell _ _ (toZ-ofZ (start .fits .x)) _ _ _ (c .search2 .ensures .1 .0),
+    )
 
 search-requires-3 : tie.Need-search-requires-3
 search-requires-3 c κs =
@@ -54,14 +60,19 @@ search-requires-3 c κs =
         start .pre .1,
         (
           front-none _ _ _,
-          back-more _ _ _ (start .pre .1) _ (there start (omega arith)) (sym (c .before .passes .ensures) ∙ c .if2 .left),
+          back-more _ _ _ (start .pre .1) _ (there start (omega arith))
+              (sym (c .before .passes .ensures) ∙ c .if2 .left),
         ),
       ),
     )
 
 returns-3 : tie.Need-returns-3
 returns-3 c =
-    let start = c .before .before .before .before in (omega arith, front-cell _ _ (toZ-ofZ (start .fits .x)) _ _ _ (c .search3 .ensures .1 .0))
+    let start =
+    c .before .before .before .before in (
+      omega arith,
+      front-cell _ _ (toZ-ofZ (start .fits .x)) _ _ _ (c .search3 .ensures .1 .0),
+    )
 
 pub first-spec : {M : Type 1} → statement M
 first-spec =

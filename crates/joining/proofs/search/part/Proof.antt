@@ -3,7 +3,7 @@ use mathlib.Core.Path.{refl, sym, _∙_}
 use native.Mathlib.Omega.{arith}
 use mir.Facts.{toZ-ofZ}
 use borrow.Author.Tests.{not-false}
-use Rattle.joining.proofs.Climbing.{front-equal, back-end}
+use Rattle.joining.proofs.Passing.{front-equal, back-end}
 use Rattle.joining.proofs.Narrowing.{narrows-whole, narrows-part, front-cell, back-cell}
 use Rattle.joining.proofs.search.part.Statement.{statement}
 use Rattle.joining.proofs.search.part.Tie as tie

@@ -11,7 +11,8 @@ use mir.Facts.{toZ-ofZ}
 use Rattle.cells.specs.Cell.{before}
 use Rattle.meaning.specs.Operators.{column}
 use Rattle.tables.specs.Layout.{tableAt, Inside}
-use Rattle.joining.proofs.Climbing.{column-at, row-inside, passed-equal, passed-before}
+use Rattle.joining.proofs.Passing.{passed-equal, passed-before}
+use Rattle.tables.proofs.Reading.{column-at, cell-inside}
 use borrow.Author.Needs.{needs}
 use Rattle.joining.proofs.search.passes.Statement.{statement}
 use Rattle.joining.proofs.search.passes.Tie as tie
@@ -21,7 +22,7 @@ there : (c : tie.Start) →
     let g = c .args in
     g .u .at + g .i * g .u .width + g .d < length (g .work .now)
 unfolding Inside
-there c = row-inside _ _ _ _ _ _ (c .pre .2) (c .pre .1) (c .pre .0)
+there c = cell-inside _ _ _ _ _ _ (c .pre .2) (c .pre .1) (c .pre .0)
 
 mul-cell : tie.Need-mul-cell
 mul-cell c = omega (arith, there c)
@@ -50,17 +51,21 @@ read : (c : tie.After-cell) →
     toZ w64 (ofZ w64 (getD (g .work .now) (g .u .at + g .i * g .u .width + g .d) (pos 0)))
     ≡ getD (column (tableAt (g .work .now) (g .u)) (g .d)) (g .i) (pos 0)
 unfolding tableAt
-read c = toZ-ofZ (record { sfits = c .cell .given }) ∙ sym (column-at _ _ _ _ _ _ (c .before .pre .1) (c .before .pre .2))
+read c =
+    toZ-ofZ (record { sfits = c .cell .given })
+    ∙ sym (column-at _ _ _ _ _ _ (c .before .pre .1) (c .before .pre .2))
 
 returns : tie.Need-returns
 returns c =
     ap not (c .before2 .ensures)
-    ∙ passed-equal _ _ _ _ _ (toZ-ofZ (c .before .before .before .fits .x)) (read (c .before .before)) (c .before .if1 .taken)
+    ∙ passed-equal _ _ _ _ _ (toZ-ofZ (c .before .before .before .fits .x)) (read (c .before .before))
+    (c .before .if1 .taken)
 
 returns-2 : tie.Need-returns-2
 returns-2 c =
     c .before3 .ensures
-    ∙ passed-before _ _ _ _ _ (toZ-ofZ (c .before .before .before .fits .x)) (read (c .before .before)) (c .before .if1 .left)
+    ∙ passed-before _ _ _ _ _ (toZ-ofZ (c .before .before .before .fits .x)) (read (c .before .before))
+    (c .before .if1 .left)
 
 pub passes-spec : {M : Type 1} → statement M
 passes-spec =

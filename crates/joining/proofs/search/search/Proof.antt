@@ -1,5 +1,5 @@
--- `joining::search::search` meets its contract. The invariant: the rows before lo are passed, those from hi on are not. The
--- measure is how many rows lie between.
+-- `joining::search::search` meets its contract. The invariant: the rows before lo are passed, those from hi on are
+-- not. The measure is how many rows lie between.
 use Prim.Native.Nat.{_-_, _≤_, _<_}
 use mathlib.Core.Path.{_≡_, sym, _∙_, subst}
 use native.Mathlib.Omega.{arith}
@@ -10,7 +10,8 @@ use mir.Facts.{toZ-ofZ}
 use Rattle.meaning.specs.Operators.{column}
 use Rattle.tables.specs.Layout.{tableAt}
 use Rattle.joining.specs.Narrowed.{Front, Back}
-use Rattle.joining.proofs.Climbing.{front-more, back-more, length-table}
+use Rattle.joining.proofs.Passing.{front-more, back-more}
+use Rattle.tables.proofs.Reading.{length-rows}
 use Rattle.joining.proofs.Narrowing.{front-cell, back-cell}
 use borrow.Author.Needs.{needs}
 use Rattle.joining.proofs.search.search.Statement.{statement}
@@ -41,7 +42,7 @@ probe-requires c κs = omega arith
 there : (c : tie.After-probe Inv-loop μ-loop) →
     let g = c .before .before .before .args in
     c .probe .result < length (column (tableAt (g .work .now) (g .u)) (g .d))
-there c = let g = c .before .before .before .args in omega (arith, length-table (g .work .now) (g .u) (g .d))
+there c = let g = c .before .before .before .args in omega (arith, length-rows (g .work .now) (g .u) (g .d))
 
 passes-requires : tie.Need-passes-requires Inv-loop μ-loop
 passes-requires c κs =

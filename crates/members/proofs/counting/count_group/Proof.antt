@@ -7,7 +7,7 @@ use mir.Facts.{toZ-ofZ}
 use borrow.Author.Needs.{sfits-of}
 use Rattle.cells.proofs.Bits.{read-back}
 use Rattle.tables.specs.Layout.{Inside}
-use Rattle.members.proofs.Reading.{rows-few}
+use Rattle.tables.proofs.Reading.{rows-few}
 use Rattle.members.proofs.Members.{pair-is}
 use borrow.Author.Needs.{needs}
 use Rattle.members.proofs.counting.count_group.Statement.{statement}

@@ -1,5 +1,5 @@
--- `members::counting::count_rows` meets its contract. The invariant: n counts the rows of the group before row i, and what is left
--- gives what the whole gives. The measure is how many rows are left.
+-- `members::counting::count_rows` meets its contract. The invariant: n counts the rows of the group before row i, and
+-- what is left gives what the whole gives. The measure is how many rows are left.
 use Prim.Native.Nat.{_+_, _-_, _≤_, _<_}
 use mathlib.Core.Path.{_≡_, ap, _∙_}
 use native.Mathlib.Omega.{arith}
@@ -11,9 +11,11 @@ use Rattle.cells.specs.Cell.{same}
 use Rattle.cells.proofs.Bits.{read-back}
 use Rattle.meaning.specs.Operators.{groupOf}
 use Rattle.tables.specs.Layout.{tableAt}
-use Rattle.members.specs.Grouped.{cellAt, inFront}
-use Rattle.members.proofs.Reading.{length-table}
-use Rattle.members.proofs.Members.{counted-more, counted-end, byte-few}
+use Rattle.members.specs.Grouped.{inFront}
+use Rattle.tables.specs.Order.{cellAt}
+use Rattle.tables.proofs.Reading.{length-table}
+use Rattle.members.proofs.Members.{counted-more, counted-end}
+use Rattle.laws.proofs.Lists.{byte-few}
 use borrow.Author.Needs.{needs}
 use Rattle.members.proofs.counting.count_rows.Statement.{statement}
 use Rattle.members.proofs.counting.count_rows.Tie as tie
@@ -36,7 +38,9 @@ loop-holds c =
     let t = tableAt (c .before .args .work .now) (c .before .args .s) in (
       omega arith,
       omega arith,
-      zero-add _ ∙ ap (λ x. length (groupOf t (c .before .args .c) x)) (read-back w64 (c .cell-at .ok) ∙ c .cell-at .ensures),
+      zero-add _
+          ∙ ap (λ x. length (groupOf t (c .before .args .c) x))
+          (read-back w64 (c .cell-at .ok) ∙ c .cell-at .ensures),
     )
 
 cell-at-requires-2 : tie.Need-cell-at-requires-2 Inv-loop μ-loop
@@ -86,7 +90,8 @@ returns c =
     let at = c .before .before in
     let g = at .before .before .args in (
       omega arith,
-      counted-end (tableAt (g .work .now) (g .s)) (g .c) (toZ w64 (ofZ w64 (at .before .cell-at .result))) (at .loop .i) _ _
+      counted-end (tableAt (g .work .now) (g .s)) (g .c) (toZ w64 (ofZ w64 (at .before .cell-at .result)))
+          (at .loop .i) _ _
           (omega (arith, length-table (g .work .now) (g .s))) (at .loop .inv .2),
     )
 

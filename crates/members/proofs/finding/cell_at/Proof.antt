@@ -3,7 +3,7 @@ use mathlib.Core.Path.{_∙_}
 use native.Mathlib.Omega.{arith}
 use mir.Facts.{toZ-ofZ}
 use Rattle.tables.specs.Layout.{Inside}
-use Rattle.members.proofs.Reading.{row-inside, cell-at-is}
+use Rattle.tables.proofs.Reading.{row-inside, cell-at-is}
 use Rattle.members.proofs.finding.cell_at.Statement.{statement}
 use Rattle.members.proofs.finding.cell_at.Tie as tie
 
@@ -25,10 +25,13 @@ mul-result c = omega (arith, row-inside _ _ (c .before .before .args .s .width) 
 
 shared-slice-copy-out-result : tie.Need-shared-slice-copy-out-result
 unfolding Inside
-shared-slice-copy-out-result c = omega (arith, row-inside _ _ (c .before .before .args .s .width) (c .before .before .pre .2))
+shared-slice-copy-out-result c =
+    omega (arith, row-inside _ _ (c .before .before .args .s .width) (c .before .before .pre .2))
 
 returns : tie.Need-returns
-returns c = toZ-ofZ (record { sfits = c .result .given }) ∙ cell-at-is _ _ _ _ (c .before .before .before .pre .1) (c .before .before .before .pre .2)
+returns c =
+    toZ-ofZ (record { sfits = c .result .given })
+    ∙ cell-at-is _ _ _ _ (c .before .before .before .pre .1) (c .before .before .before .pre .2)
 
 pub cell-at-spec : {M : Type 1} → statement M
 cell-at-spec =

@@ -1,4 +1,5 @@
--- `members::finding::opens` meets its contract: the first row; the row just above, where the column climbs; every row above.
+-- `members::finding::opens` meets its contract: the first row; the row just above, where the column climbs; every row
+-- above.
 use Prim.Native.Nat.{_-_}
 use mathlib.Core.Path.{sym, ap, ap₂, _∙_}
 use mathlib.Core.Bool.{not}
@@ -7,8 +8,8 @@ use mir.Syntax.{w64}
 use Rattle.cells.proofs.Bits.{read-back}
 use Rattle.cells.specs.Cell.{same}
 use Rattle.tables.specs.Layout.{Inside}
-use Rattle.members.proofs.Reading.{row-inside, length-table}
-use Rattle.members.proofs.Climbing.{opens-first, opens-up, opens-else}
+use Rattle.tables.proofs.Reading.{row-inside, length-table}
+use Rattle.members.proofs.Opening.{opens-first, opens-up, opens-else}
 use borrow.Author.Needs.{needs}
 use Rattle.members.proofs.finding.opens.Statement.{statement}
 use Rattle.members.proofs.finding.opens.Tie as tie
@@ -49,7 +50,8 @@ returns-3 : tie.Need-returns-3
 returns-3 c =
     let start = c .before .before .before .before in
     ap not (c .occurs .ensures)
-    ∙ opens-else _ _ _ _ _ (start .pre .0 .2) (read-back w64 (c .before .before .cell-at .ok) ∙ c .before .before .cell-at .ensures)
+    ∙ opens-else _ _ _ _ _ (start .pre .0 .2)
+    (read-back w64 (c .before .before .cell-at .ok) ∙ c .before .before .cell-at .ensures)
 
 pub opens-spec : {M : Type 1} → statement M
 opens-spec =

@@ -1,5 +1,5 @@
--- `members::finding::run` meets its contract. The invariant: the rows before row i hold the cell, and what is left gives what the
--- whole gives. The measure is how many rows are left.
+-- `members::finding::run` meets its contract. The invariant: the rows before row i hold the cell, and what is left
+-- gives what the whole gives. The measure is how many rows are left.
 use Prim.Native.Nat.{_+_, _-_, _≤_, _<_}
 use mathlib.Core.Path.{_≡_, sym, ap, _∙_}
 use native.Mathlib.Omega.{arith}
@@ -12,8 +12,9 @@ use Rattle.cells.proofs.Bits.{read-back}
 use Rattle.cells.specs.Cell.{same}
 use Rattle.meaning.specs.Operators.{column}
 use Rattle.tables.specs.Layout.{tableAt}
-use Rattle.members.specs.Grouped.{cellAt, inFront, leading}
-use Rattle.members.proofs.Reading.{length-table}
+use Rattle.members.specs.Grouped.{inFront, leading}
+use Rattle.tables.specs.Order.{cellAt}
+use Rattle.tables.proofs.Reading.{length-table}
 use Rattle.members.proofs.Parts.{leading-more, leading-stops, leading-ends}
 use borrow.Author.Needs.{needs}
 use Rattle.members.proofs.finding.run.Statement.{statement}
@@ -33,7 +34,8 @@ cell-at-requires c κs = search needs
 
 -- the first row's cell, read back from its bits
 front : (c : tie.After-cell-at Inv-loop μ-loop) →
-    toZ w64 (ofZ w64 (c .cell-at .result)) ≡ inFront (tableAt (c .before .args .work .now) (c .before .args .s)) (c .before .args .c)
+    toZ w64 (ofZ w64 (c .cell-at .result))
+    ≡ inFront (tableAt (c .before .args .work .now) (c .before .args .s)) (c .before .args .c)
 front c = read-back w64 (c .cell-at .ok) ∙ c .cell-at .ensures
 
 loop-holds : tie.Need-loop-holds Inv-loop μ-loop
@@ -66,8 +68,10 @@ here c =
 returns : tie.Need-returns Inv-loop μ-loop
 returns c =
     let then = c .before .before .before in
-    let at = then .before .before in
-    (at .loop .inv .0, leading-stops _ _ _ _ _ (here then) (sym (equal (c .before)) ∙ not-true _ (c .if2 .taken)) (at .loop .inv .1))
+    let at = then .before .before in (
+      at .loop .inv .0,
+      leading-stops _ _ _ _ _ (here then) (sym (equal (c .before)) ∙ not-true _ (c .if2 .taken)) (at .loop .inv .1),
+    )
 
 add-i : tie.Need-add-i Inv-loop μ-loop
 add-i c = search needs
@@ -78,8 +82,10 @@ loop-less c = search needs
 loop-again : tie.Need-loop-again Inv-loop μ-loop
 loop-again c =
     let then = c .before .before .before in
-    let at = then .before .before in
-    (omega arith, leading-more _ _ _ _ _ (here then) (sym (equal (c .before)) ∙ not-false _ (c .if2 .left)) (at .loop .inv .1))
+    let at = then .before .before in (
+      omega arith,
+      leading-more _ _ _ _ _ (here then) (sym (equal (c .before)) ∙ not-false _ (c .if2 .left)) (at .loop .inv .1),
+    )
 
 returns-2 : tie.Need-returns-2 Inv-loop μ-loop
 returns-2 c =

@@ -7,7 +7,7 @@ use mir.Facts.{toZ-ofZ}
 use Rattle.cells.specs.Cell as Cell
 use Rattle.cells.proofs.Bits.{read-back}
 use Rattle.tables.specs.Layout.{tableAt}
-use Rattle.members.specs.Grouped.{cellAt}
+use Rattle.tables.specs.Order.{cellAt}
 use borrow.Author.Needs.{needs}
 use Rattle.members.proofs.judging.better.Statement.{statement}
 use Rattle.members.proofs.judging.better.Tie as tie
@@ -21,10 +21,12 @@ same-requires c κs = search needs
 -- the cells, read back from their bits
 equal : (c : tie.After-same) →
     let start = c .before .before in
-    c .same .result ≡ Cell.same (start .args .x) (cellAt (tableAt (start .args .work .now) (start .args .s)) 0 (start .args .i))
+    c .same .result
+    ≡ Cell.same (start .args .x) (cellAt (tableAt (start .args .work .now) (start .args .s)) 0 (start .args .i))
 equal c =
     c .same .ensures
-    ∙ ap₂ Cell.same (toZ-ofZ (c .before .before .fits .x)) (read-back w64 (c .before .cell-at .ok) ∙ c .before .cell-at .ensures)
+    ∙ ap₂ Cell.same (toZ-ofZ (c .before .before .fits .x))
+    (read-back w64 (c .before .cell-at .ok) ∙ c .before .cell-at .ensures)
 
 order : (c : tie.After-before2) →
     let start = c .before .before .before .before .before .before in

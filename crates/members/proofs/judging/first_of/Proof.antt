@@ -1,5 +1,5 @@
--- `members::judging::first_of` meets its contract. The invariant: row `best` comes first of the group's rows before row i, and what is
--- left gives what the whole gives. The measure is how many rows are left.
+-- `members::judging::first_of` meets its contract. The invariant: row `best` comes first of the group's rows before
+-- row i, and what is left gives what the whole gives. The measure is how many rows are left.
 use Prim.Native.Nat.{_-_, _<_}
 use mathlib.Core.Path.{_≡_, sym, ap, _∙_}
 use mathlib.Core.List.{[]}
@@ -11,7 +11,7 @@ use Rattle.cells.proofs.Bits.{read-back}
 use Rattle.meaning.specs.Operators.{groupOf}
 use Rattle.tables.specs.Layout.{tableAt}
 use Rattle.members.specs.Grouped.{inFront, least}
-use Rattle.members.proofs.Reading.{length-table}
+use Rattle.tables.proofs.Reading.{length-table}
 use Rattle.members.proofs.Least.{least-more, least-within, least-end}
 use borrow.Author.Needs.{needs}
 use Rattle.members.proofs.judging.first_of.Statement.{statement}
@@ -21,7 +21,8 @@ abbrev Inv-loop : tie.InvT-loop
 Inv-loop work s x best₀ i₀ best i =
     let t = tableAt work s in
     (best < s .rows)
-    × (least (getD t best []) (groupOf (drop i t) 0 (toZ w64 x)) ≡ least (getD t 0 []) (groupOf (drop 1 t) 0 (inFront t 0)))
+    × (least (getD t best []) (groupOf (drop i t) 0 (toZ w64 x))
+    ≡ least (getD t 0 []) (groupOf (drop 1 t) 0 (inFront t 0)))
 
 abbrev μ-loop : tie.MeasureT-loop
 μ-loop work s x best₀ i₀ best i = s .rows - i
@@ -63,7 +64,8 @@ returns c =
     let at = c .before .before in
     let start = at .before .before in (
       at .loop .inv .0,
-      least-end (tableAt (start .args .work .now) (start .args .s)) (toZ w64 (ofZ w64 (at .before .cell-at .result))) (at .loop .i) _ _
+      least-end (tableAt (start .args .work .now) (start .args .s)) (toZ w64 (ofZ w64 (at .before .cell-at .result)))
+          (at .loop .i) _ _
           (omega (arith, length-table (start .args .work .now) (start .args .s))) (at .loop .inv .1),
     )
 

@@ -4,7 +4,7 @@ use native.Mathlib.Omega.{arith}
 use mir.Syntax.{w64}
 use Rattle.cells.proofs.Bits.{read-back}
 use Rattle.tables.specs.Layout.{tableAt}
-use Rattle.members.proofs.Reading.{length-table}
+use Rattle.tables.proofs.Reading.{length-table}
 use Rattle.members.proofs.Least.{group-truth-is}
 use borrow.Author.Needs.{needs}
 use Rattle.members.proofs.judging.group_truth.Statement.{statement}

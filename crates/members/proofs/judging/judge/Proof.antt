@@ -19,7 +19,8 @@ returns : tie.Need-returns
 returns c =
     let then = c .before .before in
     c .truth .ensures
-    ∙ ap₂ (λ (z : ℤ) (b : Bool). World.truth (z ∷ cond b [] (z ∷ []))) (toZ-ofZ (then .before .fits .item)) (sym (then .if1 .taken))
+    ∙ ap₂ (λ (z : ℤ) (b : Bool). World.truth (z ∷ cond b [] (z ∷ []))) (toZ-ofZ (then .before .fits .item))
+    (sym (then .if1 .taken))
 
 slice-aggregate-truth-2 : tie.Need-slice-aggregate-truth-2
 slice-aggregate-truth-2 c = search needs
@@ -31,7 +32,8 @@ returns-2 : tie.Need-returns-2
 returns-2 c =
     let else = c .before .before in
     c .truth2 .ensures
-    ∙ ap₂ (λ (z : ℤ) (b : Bool). World.truth (z ∷ cond b [] (z ∷ []))) (toZ-ofZ (else .before .fits .item)) (sym (else .if1 .left))
+    ∙ ap₂ (λ (z : ℤ) (b : Bool). World.truth (z ∷ cond b [] (z ∷ []))) (toZ-ofZ (else .before .fits .item))
+    (sym (else .if1 .left))
 
 pub judge-spec : {M : Type 1} → statement M
 judge-spec =

@@ -25,7 +25,9 @@ same-length c = search needs
 
 returns : tie.Need-returns
 unfolding judged
-returns c = owes-failed _ _ _ _ _ _ _ refl (sym (c .before .before .group-truth .ensures) ∙ ap judged (c .enum-told .given .1))
+returns c =
+    owes-failed _ _ _ _ _ _ _ refl (sym (c .before .before .group-truth .ensures)
+    ∙ ap judged (c .enum-told .given .1))
 
 cell-at-requires : tie.Need-cell-at-requires
 unfolding Inside
@@ -46,7 +48,8 @@ returns-2 c =
     let pairing = c .before .before in
     let reading = pairing .before .before in
     let told = reading .before .before in
-    owes-given _ _ _ _ _ _ _ _ _ (sym (told .before .before .before .group-truth .ensures) ∙ ap judged (told .before .judged .given .1))
+    owes-given _ _ _ _ _ _ _ _ _ (sym (told .before .before .before .group-truth .ensures)
+    ∙ ap judged (told .before .judged .given .1))
     (pair-is _ _ _ _ _ _ _ _ _ (read-back w64 (reading .cell-at .ok) ∙ reading .cell-at .ensures)
     (read-back w64 (pairing .truth-cell .ok) ∙ pairing .truth-cell .ensures) (c .before .pair .ensures))
 

@@ -1,7 +1,7 @@
 -- `operators::arms::minus` meets its contract.
 use mathlib.Core.Path.{sym}
 use native.Mathlib.Omega.{arith}
-use Rattle.tables.specs.Tasks.{Suits, wider}
+use Rattle.rowwise.specs.Tasks.{Suits, wider}
 use borrow.Author.Needs.{needs}
 use Rattle.operators.proofs.arms.minus.Statement.{statement}
 use Rattle.operators.proofs.arms.minus.Tie as tie

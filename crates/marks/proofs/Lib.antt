@@ -1,0 +1,4 @@
+pub mod Tests
+pub mod Ranks
+pub mod Nodes
+pub mod Writing
