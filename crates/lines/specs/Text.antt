@@ -1,18 +1,23 @@
--- What the printing program prints (document 01, 'Marked examples', from 'Program `chartask`' on). A text is a list of bytes,
--- each the ASCII number of a character.
+-- What the printing program prints (document 01, 'Marked examples', from 'Program `chartask`' on). A text is a list of
+-- bytes, each the ASCII number of a character.
 --     digits k n          n in decimal, k digits at most
 --     decimal n           n in decimal: twenty digits are enough for 64 bits
 --     signed z            .. with its sign
---     itemLine z          the item of a cell: `int Z`, `bool 0`, `bool 1` or `node R`; a cell that holds no item has no line
+--     itemLine z          the item of a cell: `int Z`, `bool 0`, `bool 1` or `node R`; a cell that holds no item has
+--                         no line
 --     refusedLine n p     `refused n at p`
 --     firstLines t xs     `items N` and a line for each of the items xs; or the refusal
 --     refusedWith n t     t is a refusal with number n
 --     agree ..            both gave the same items, or both refused with the same number
 --     verdict ..          room where either gave 6; else whether the engines agree
 --     sameLine v          `same yes`, `same no` or `same room`
---     text ..             all lines: from what the translator, the runner and the evaluator told, and the items of the two
+--     text ..             all lines: from what the translator, the runner and the evaluator told, and the items of the
+--                         two
 --                         engines
+--     sameNo              the bytes `same no`
+--     Nowhere word t      the bytes of a word stand nowhere in text t
 use Prim.Native.Nat.{ℕ, zero, suc, _+_, _/_, _%_}
+use mathlib.Core.Path.{_≡_}
 use mathlib.Core.List.{List, [], _∷_, _++_}
 use mathlib.Core.Bool.{Bool, true, false, cond, _||_}
 use lib.Dec.{ltb, eqb}
@@ -137,3 +142,9 @@ sameLine Room = sameWord ++ (roomWord ++ lineEnd)
 unfoldable pub text : Told → Told → List ℤ → Told → List ℤ → Text
 text (Refused n p) ran xs evaluated ys = refusedLine n p
 text (Gave k) ran xs evaluated ys = firstLines ran xs ++ sameLine (verdict ran xs evaluated ys)
+
+abbrev pub sameNo : Text
+sameNo = sameWord ++ noWord
+
+abbrev pub Nowhere : Text → Text → Type 0
+Nowhere word t = (before after : Text) → ¬ (t ≡ before ++ (word ++ after))
