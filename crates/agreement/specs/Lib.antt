@@ -3,4 +3,4 @@ pub mod Families
 pub mod Encoded
 pub mod Machine
 pub mod Room
-pub mod Promises
+pub mod Passing

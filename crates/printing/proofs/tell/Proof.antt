@@ -2,7 +2,7 @@
 use mathlib.Core.Path.{refl}
 use native.Mathlib.Omega.{arith}
 use Rattle.lines.specs.Placed.{Stands, roomFor}
-use Rattle.printing.proofs.Joined.{refused-text, bytes-within, plan-text, told-put}
+use Rattle.printing.proofs.Joined.{bytes-within, tells-refused, tells-plan}
 use borrow.Author.Needs.{needs}
 use Rattle.printing.proofs.tell.Statement.{statement}
 use Rattle.printing.proofs.tell.Tie as tie
@@ -43,10 +43,10 @@ returns c =
     let at-keys = at-write .before .before .before .before in
     let at-told = at-keys .before in
     let at-translate = at-told .before .before .before in
-    let start = at-translate .before .before .before .before .before .before in
-    told-put _ _ _ _ _ (at-write .write .ensures)
-    (refused-text _ _ _ _ _ _ _ _ _ (at-keys .match .keys2) (start .pre .0 .0) (at-translate .translate .ensures .0)
-    (at-told .plan-told .ensures))
+    let known = at-translate .before .before .before .before .before in
+    let t = at-translate .translate in
+    tells-refused _ _ _ _ _ _ (λ i. known .shared-slice-known .given i .fits) (known .before .pre .0 .0) (t .ensures .0)
+    (t .ensures .1) (at-told .plan-told .ensures) _ _ _ _ _ _ _ _ _ (at-keys .match .keys2) (at-write .write .ensures)
 
 sub-both : tie.Need-sub-both
 sub-both c = omega arith
@@ -88,11 +88,11 @@ returns-2 c =
     let at-read = at-both .before .before .before .before .before .before .before in
     let at-told = at-read .before .before in
     let at-translate = at-told .before .before .before in
-    let start = at-translate .before .before .before .before .before .before in
+    let known = at-translate .before .before .before .before .before in
     let t = at-translate .translate in
-    told-put _ _ _ _ _ (at-both .both .ensures)
-    (plan-text _ _ _ _ _ _ _ _ (at-read .translated .given .1) (start .pre .0 .0) (t .ensures .0) (t .ensures .1)
-    (at-told .plan-told .ensures))
+    tells-plan _ _ _ _ _ _ (λ i. known .shared-slice-known .given i .fits) (known .before .pre .0 .0) (t .ensures .0)
+    (t .ensures .1) (at-told .plan-told .ensures) _ _ _ _ _ _ _ _ _ (at-read .translated .given .1)
+    (at-both .both .ensures)
 
 pub tell-spec : {M : Type 1} → statement M
 tell-spec =
