@@ -79,7 +79,7 @@ fn second_told(ran: Ran, query: &[u8], doc: &[u8], work: &mut [i64]) -> Told
         (now (doc .entry)) .left) ⌝ }
 {
     match ran {
-        Ran::Full(place) => Told::Refused(6, place),
+        Ran::Full(p) => Told::Refused(6, p),
         _ => evaluation_told(evaluator::evaluate(query, doc, work)),
     }
 }

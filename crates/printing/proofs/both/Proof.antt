@@ -6,13 +6,26 @@ use borrow.Author.Needs.{needs}
 use Rattle.printing.proofs.both.Statement.{statement}
 use Rattle.printing.proofs.both.Tie as tie
 
+-- places: the start, the run, the kept items, the evaluator's turn, what the runner told
+abbrev start-of : tie.After-run → tie.Start
+start-of c = c .before .before .before .before .before .before
+
+abbrev run-of : tie.After-keep-items → tie.After-run
+run-of c = c .before .before .before .before
+
+abbrev keep-of : tie.After-second-told → tie.After-keep-items
+keep-of c = c .before .before .before
+
+abbrev second-of : tie.After-run-told → tie.After-second-told
+second-of c = c .before .before .before
+
 run-requires : tie.Need-run-requires
 run-requires c κs = search needs
 
 keep-items-requires : tie.Need-keep-items-requires
 keep-items-requires c κs =
     let run = c .before .before .before in
-    let start = run .before .before .before .before .before .before in
+    let start = start-of run in
     keep-fits _ _ _ _ _ _ (run .run .ensures .0) (start .pre .0) (run .run .kept .1 .1 .0) (start .pre .1 .0)
 
 second-told-requires : tie.Need-second-told-requires
@@ -24,10 +37,10 @@ run-told-requires c κs = search needs
 write-requires : tie.Need-write-requires
 write-requires c κs =
     let at-ran = c .before .before in
-    let at-second = at-ran .before .before .before in
-    let at-keep = at-second .before .before .before in
-    let at-run = at-keep .before .before .before .before in
-    let start = at-run .before .before .before .before .before .before in
+    let at-second = second-of at-ran in
+    let at-keep = keep-of at-second in
+    let at-run = run-of at-keep in
+    let start = start-of at-run in
     let s = at-second .second-told in
     write-fits _ _ _ _ _ _ _ _ _ _ _ _ (at-ran .run-told .ensures) (s .ensures .0) (at-run .run .ensures .0)
     (start .pre .0) (s .kept .1 .1 .1 .0) (start .pre .1 .0) (at-keep .keep-items .kept .1 .1 .0) (start .pre .1 .1)
@@ -45,10 +58,10 @@ returns : tie.Need-returns
 returns c =
     let at-write = c .before .before in
     let at-ran = at-write .before .before .before in
-    let at-second = at-ran .before .before .before in
-    let at-keep = at-second .before .before .before in
-    let at-run = at-keep .before .before .before .before in
-    let start = at-run .before .before .before .before .before .before in
+    let at-second = second-of at-ran in
+    let at-keep = keep-of at-second in
+    let at-run = run-of at-keep in
+    let start = start-of at-run in
     let s = at-second .second-told in
     let r = at-run .run in
     let k = at-keep .keep-items .ensures in
