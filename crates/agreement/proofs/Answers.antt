@@ -1,20 +1,25 @@
 -- What an answer of the calls says (demands 1 and 2): of the lent slice, and of the definitions without room.
 --     evaluate-at, run-at      the calls on input that passes its checks
 --     evaluate-is, run-is      .. where the work is done
+--     last-three               the last table of a sound plan has width 3
+--     room-lent, found-same    no more cells count than are lent; what was read, as it was read
+--     plan-long                a plan that is given fits the lent bytes
 --     laid-stood               where a run is done, its tables stand end to end, the last one where the answer says
 --     evaluate-cleared, run-cleared, translate-cleared     as much is left as was lent, all zeros where a call refuses
 --     run-stood, evaluate-items, translate-written         what an answer of values says
+--     translate-enough         a plan of at most 512 operators is given where enough bytes are lent
 --     run-failing, evaluate-failing                        what answer 7 says
 use Prim.Native.Nat.{ℕ, _-_, _*_, _≤_}
 use mathlib.Core.Path.{_≡_, refl, sym, ap, _∙_, subst, subst₃}
 use mathlib.Core.List.{List, [], _∷_, _++_, append-assoc}
+use mathlib.Core.Bool.{true}
 use native.Mathlib.Omega.{arith}
-use borrow.Author.Tests.{leb-true}
+use borrow.Author.Tests.{leb-true, le-leb}
 use lib.Dec.{leb}
 use lib.IntN.{ℤ, pos}
 use lib.ListN.{length, replicate, length-append, length-replicate}
 use Rattle.laws.specs.Lists.{gather}
-use Rattle.laws.specs.Attempt.{fails, Reading, refuses, reads, reading, Work, done, Found}
+use Rattle.laws.specs.Attempt.{fails, Reading, refuses, reads, reading, unless, Work, done, Found}
 use Rattle.laws.specs.Attempt as Attempt
 use Rattle.meaning.specs.Catalogue.{catalogueRead}
 use Rattle.meaning.specs.World.{World, worldOf}
@@ -31,8 +36,9 @@ use Rattle.meaning.specs.Calls.{translateCall, lastTable, runCall, evaluateCall
 use Rattle.laws.proofs.Outcomes.{reads-same, found-reads, found-unless, found-reading}
 use Rattle.theorems.proofs.Counts.{counts}
 use Rattle.theorems.proofs.Counted.{evaluate-done, evaluate-failed, running-done, running-failed, running-fits}
-use Rattle.agreement.specs.Promises.{Passed, PlanPassed, means, makes, Refused, Cleared, Stood}
-use Rattle.agreement.proofs.RowWidths.{Wide, Widths, widthsOf, LastThree, read-sound, flat-wide, flat-last}
+use Rattle.agreement.specs.Passing.{Passed, PlanPassed, means, evaluation, makes, theRun, Refused, Cleared}
+use Rattle.agreement.specs.Passing.{Stood}
+use Rattle.agreement.proofs.RowWidths.{RowsOf, Widths, widthsOf, LastThree, read-sound, flat-wide, flat-last}
 use Rattle.agreement.proofs.RowWidths.{last-wide, Laid, running-laid}
 use Rattle.agreement.proofs.EngineCalls.{ended, evaluated, ran, evaluate-ended, run-ended, gives-refused}
 use Rattle.agreement.proofs.EngineCalls.{evaluated-plain, ran-plain, ended-zeroed, ended-long, ended-seven}
@@ -41,20 +47,14 @@ use Rattle.agreement.proofs.EngineCalls.{ended-gives, length-padded, ro
 -- On input that passes its checks
 
 module _ {query doc : List ℕ} (i : Passed query doc) (lent : ℕ) where
-  abbrev pub evaluation : Work Standing
-  evaluation = evaluate (worldOf (i .catalogue)) (room lent) (λ v. []) (i .read .tree)
-
-  pub evaluate-at : evaluateCall query doc lent ≡ ended (evaluated lent) lent (reads evaluation)
+  pub evaluate-at : evaluateCall query doc lent ≡ ended (evaluated lent) lent (reads (evaluation i lent))
   unfolding evaluateCall reading
-  evaluate-at = rw (i .query-reads, i .doc-reads) (evaluate-ended lent (reads evaluation))
+  evaluate-at = rw (i .query-reads, i .doc-reads) (evaluate-ended lent (reads (evaluation i lent)))
 
 module _ {bytes doc : List ℕ} (i : PlanPassed bytes doc) (lent : ℕ) where
-  abbrev pub theRun : Work Filled
-  theRun = running (worldOf (i .catalogue)) (room lent) (i .placed) [] 0
-
-  pub run-at : runCall bytes doc lent ≡ ended (ran lent) lent (reads theRun)
+  pub run-at : runCall bytes doc lent ≡ ended (ran lent) lent (reads (theRun i lent))
   unfolding runCall reading
-  run-at = rw (i .plan-reads, i .doc-reads) (run-ended lent (reads theRun))
+  run-at = rw (i .plan-reads, i .doc-reads) (run-ended lent (reads (theRun i lent)))
 
 -- .. where the work is done
 module _ {query doc : List ℕ} (i : Passed query doc) (lent : ℕ) where
@@ -69,9 +69,9 @@ module _ {bytes doc : List ℕ} (i : PlanPassed bytes doc) (lent : ℕ) where
 
 -- Where a run is done
 
-last-three : (ps : List Placed) (ts : List Table) → LastThree ps → Widths (widthsOf ps) ts → Wide 3 (lastTable ts)
+pub last-three : (ps : List Placed) (ts : List Table) → LastThree ps → Widths (widthsOf ps) ts → RowsOf 3 (lastTable ts)
 last-three [] ts l h = absurd l
-last-three (p ∷ ps) ts l h = subst (λ (w : ℕ). Wide w (lastTable ts)) l (last-wide p ps ts h)
+last-three (p ∷ ps) ts l h = subst (λ (w : ℕ). RowsOf w (lastTable ts)) l (last-wide p ps ts h)
 
 pub laid-stood : (bytes : List ℕ) (ps : List Placed) (w : World) (lent : ℕ) (f : Filled) → planRead bytes ≡ reads ps
     → running w (room lent) ps [] 0 ≡ done f
@@ -82,12 +82,13 @@ laid-stood bytes ps w lent f e d =
     let (sound, three) = read-sound bytes ps e in
     let laid : Laid (widthsOf ps) f = running-laid w (room lent) ps f sound d in
     let last : Table = lastTable (f .tables) in
-    let wide : Wide 3 last = last-three ps (f .tables) three (laid .widths) in
+    let wide : RowsOf 3 last = last-three ps (f .tables) three (laid .widths) in
     let (front, split) = flat-last (f .tables) in
     let zeros : List ℤ = replicate (lent - length (gather flat (f .tables))) (pos 0) in
     record {
       cells = refl;
       count = laid .cells;
+      begins = refl;
       last =
           rows-flat front last zeros _ 3 _
           (omega
@@ -98,12 +99,12 @@ laid-stood bytes ps w lent f e d =
 
 -- Demand 1
 
-room-lent : (lent : ℕ) → room lent ≤ lent
+pub room-lent : (lent : ℕ) → room lent ≤ lent
 unfolding room
 room-lent lent = omega arith
 
 -- .. what was read, as it was read
-found-same : {A : Type 0} (m : Reading A) → Found (λ x. m ≡ reads x) m
+pub found-same : {A : Type 0} (m : Reading A) → Found (λ x. m ≡ reads x) m
 found-same m = record { found = λ x e. e }
 
 evaluated-long : (lent : ℕ) (w : World) (q : Query) (s : Standing) → evaluate w (room lent) (λ v. []) q ≡ done s
@@ -153,7 +154,7 @@ run-cleared bytes doc =
           (sym (ap (λ (o : Outcome ℤ). o .answer) (run-ended lent _)) ∙ e);
     }
 
-plan-long : (lent : ℕ) (q : Query) → Found (λ os. length (written os) ≤ lent) (planOf lent q)
+pub plan-long : (lent : ℕ) (q : Query) → Found (λ os. length (written os) ≤ lent) (planOf lent q)
 unfolding planOf
 plan-long lent q =
     found-unless (leb (length (plan q)) 512) 2 0
@@ -272,3 +273,12 @@ translate-written query r a lent n m e =
     (found-reading (found-same (queryRead query))
     (λ r′ b. subst (λ (x : Read). Found (λ os. os ≡ plan (r .tree)) (planOf lent (x .tree))) (reads-same (sym a ∙ b))
     (plan-found lent (r .tree)))) e
+
+pub translate-enough : (query : List ℕ) (r : Read) → queryRead query ≡ reads r → (lent : ℕ)
+    → length (plan (r .tree)) ≤ 512 → length (written (plan (r .tree))) ≤ lent
+    → translateCall query lent .answer ≡ gives (length (plan (r .tree)) ∷ length (written (plan (r .tree))) ∷ [])
+unfolding translateCall translateOutcome reading planOf unless
+translate-enough query r e lent few long =
+    let t : leb (length (plan (r .tree))) 512 ≡ true = le-leb _ 512 few in
+    let u : leb (length (written (plan (r .tree)))) lent ≡ true = le-leb _ lent long in
+    rw (e, t, u) refl

@@ -21,8 +21,8 @@ use Rattle.meaning.specs.Run.{Filled}
 use Rattle.meaning.specs.Calls.{gives, refused, Outcome, refusal, lastTable, runOutcome}
 use Rattle.meaning.specs.Calls.{evaluateOutcome}
 use Rattle.theorems.specs.Counts.{Full}
-use Rattle.agreement.specs.Promises.{Refused}
-use Rattle.agreement.proofs.RowWidths.{Wide}
+use Rattle.agreement.specs.Passing.{Refused}
+use Rattle.agreement.proofs.RowWidths.{RowsOf}
 
 unfoldable pub ended : {A : Type 0} → (A → Outcome ℤ) → ℕ → Reading (Work A) → Outcome ℤ
 ended f lent (refuses n p) = refusal (pos 0) lent n p
@@ -152,7 +152,7 @@ module _ {A : Type 0} (z : A) (lent : ℕ) (xs : List A) where
   take-padded n e = take-at xs (replicate (lent - length xs) z) n (sym e)
 
 -- rows of one width, laid end to end behind xs, are the rows from there on
-pub rows-flat : (xs : List ℤ) (t : Table) (ys zs : List ℤ) (w a : ℕ) → length xs ≡ a → Wide w t
+pub rows-flat : (xs : List ℤ) (t : Table) (ys zs : List ℤ) (w a : ℕ) → length xs ≡ a → RowsOf w t
     → zs ≡ xs ++ (flat t ++ ys) → rowsAt zs a (length t) w ≡ t
 unfolding rowsAt row flat gather
 rows-flat xs [] ys zs w a h k e = refl

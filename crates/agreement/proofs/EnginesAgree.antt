@@ -27,13 +27,13 @@ use Rattle.theorems.proofs.PlanRead.{query-plan-back, translated}
 use Rattle.theorems.specs.PlanRead.{Translated}
 use Rattle.agreement.specs.Machine as Machine
 use Rattle.agreement.specs.Machine.{SameRun}
-use Rattle.agreement.specs.Promises.{Passed, PlanPassed, means, makes, Refused, Stood, itemsAt, Alike}
+use Rattle.agreement.specs.Passing.{Passed, PlanPassed, means, evaluation, makes, theRun, Refused, Stood}
 use Rattle.cells.specs.Bytes.{Bytes}
-use Rattle.agreement.specs.Promises.{bothFail, bothGive, Held, Demand3, Demand3InHand}
+use Rattle.agreement.specs.Passing.{itemsAt, Alike, bothFail, bothGive, Held}
 use Rattle.agreement.proofs.MachineAgreement.{same-run-read}
 use Rattle.agreement.proofs.EngineCalls.{ended, evaluated, ran, evaluated-plain, ran-plain, Settled, failing}
 use Rattle.agreement.proofs.EngineCalls.{finished, settles, gives-refused, take-padded}
-use Rattle.agreement.proofs.Answers.{evaluation, evaluate-at, evaluate-is, theRun, run-at, run-is}
+use Rattle.agreement.proofs.Answers.{evaluate-at, evaluate-is, run-at, run-is}
 use Rattle.agreement.proofs.Answers.{laid-stood, answer-of}
 
 -- the plan's bytes, and a catalogue that passes its check
@@ -99,12 +99,12 @@ ran-gave lent f xs k s =
 
 module _ {bytes doc : List ℕ} (i : PlanPassed bytes doc) (lent : ℕ)
     (not-six : ¬ (Refused 6 (runCall bytes doc lent .answer))) where
-  run-settled : Settled (theRun i lent)
+  pub run-settled : Settled (theRun i lent)
   run-settled =
       settles (ran lent) (ran-plain lent) lent (theRun i lent)
       (subst (λ (o : Outcome ℤ). ¬ (Refused 6 (o .answer))) (run-at i lent) not-six)
 
-  run-seven : makes i ≡ fails → Refused 7 (runCall bytes doc lent .answer)
+  pub run-seven : makes i ≡ fails → Refused 7 (runCall bytes doc lent .answer)
   unfolding ended refusal
   run-seven e = go run-settled
     where
@@ -139,12 +139,12 @@ evaluated-gave lent s =
 
 module _ {query doc : List ℕ} (i : Passed query doc) (lent : ℕ)
     (not-six : ¬ (Refused 6 (evaluateCall query doc lent .answer))) where
-  evaluation-settled : Settled (evaluation i lent)
+  pub evaluation-settled : Settled (evaluation i lent)
   evaluation-settled =
       settles (evaluated lent) (evaluated-plain lent) lent (evaluation i lent)
       (subst (λ (o : Outcome ℤ). ¬ (Refused 6 (o .answer))) (evaluate-at i lent) not-six)
 
-  evaluation-seven : means i ≡ fails → Refused 7 (evaluateCall query doc lent .answer)
+  pub evaluation-seven : means i ≡ fails → Refused 7 (evaluateCall query doc lent .answer)
   unfolding ended refusal
   evaluation-seven e = go evaluation-settled
     where
@@ -172,7 +172,13 @@ module _ {query doc : List ℕ} (i : Passed query doc) (lent : ℕ)
 
 -- Both
 
-pub engines-agree : Demand3
+pub engines-agree :
+    (query doc : List ℕ) → Bytes query → (i : Passed query doc) (lent forRun forEvaluation n m : ℕ)
+    → translateCall query lent .answer ≡ gives (n ∷ m ∷ [])
+    → ¬ (Refused 6 (runCall (take m (translateCall query lent .left)) doc forRun .answer))
+    → ¬ (Refused 6 (evaluateCall query doc forEvaluation .answer))
+    → Alike (means i) (runCall (take m (translateCall query lent .left)) doc forRun)
+    (evaluateCall query doc forEvaluation)
 engines-agree query doc bytes i lent a b n m e not-run not-evaluation =
     go (same-run-read (i .catalogue) query (i .read) (i .query-reads))
   where
@@ -203,7 +209,15 @@ unfolding catalogueAnswer
 catalogue-passed rows (refuses n p) e = gives-refused (rows ∷ []) n p (sym e)
 catalogue-passed rows (reads c) e = (c, refl)
 
-pub agree-in-hand : Demand3InHand
+pub agree-in-hand :
+    (query doc bytes : List ℕ) (cells items : List ℤ) (t k r e : Answer) (lent forRun forEvaluation n m rows : ℕ)
+    → Bytes query
+    → Held (translateCall query lent) t bytes → t ≡ gives (n ∷ m ∷ [])
+    → k ≡ catalogueCall doc → k ≡ gives (rows ∷ [])
+    → Held (runCall (take m bytes) doc forRun) r cells → ¬ (Refused 6 r)
+    → Held (evaluateCall query doc forEvaluation) e items → ¬ (Refused 6 e)
+    → (i : Passed query doc)
+    × Alike (means i) (record { answer = r; left = cells }) (record { answer = e; left = items })
 unfolding catalogueCall
 agree-in-hand query doc bytes cells items t k r e lent a b n m rows small ht ot hk ok hr not-run he not-evaluation =
     let told : translateCall query lent .answer ≡ gives (n ∷ m ∷ []) = sym (ht .answers) ∙ ot in

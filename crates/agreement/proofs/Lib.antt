@@ -32,5 +32,4 @@ pub mod EngineCalls
 pub mod Answers
 pub mod SixBelow
 pub mod EnginesAgree
-pub mod ShutOut
-pub mod Promises
+pub mod Enough

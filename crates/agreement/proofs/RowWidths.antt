@@ -1,5 +1,5 @@
 -- Every table of a run has rows of the width that the plan's check worked out: cells filled are the tables' cells.
---     Wide w t               every row of table t has w cells
+--     RowsOf w t             every row of table t has w cells
 --     Widths ws ts           tables ts have the widths ws, one each
 --     make-wide              an operator on such tables makes one of its own width
 --     Sound ws ps            the operators of ps fit tables of widths ws, one after another, with the widths they have
@@ -39,23 +39,23 @@ use Rattle.laws.proofs.Outcomes.{gives-same, full-done, failed-done, given-give
 use Rattle.laws.proofs.Outcomes.{given-attempt, given-provided, found-refuses, found-reads, found-unless}
 use Rattle.laws.proofs.Outcomes.{found-refusing, found-reading}
 
-abbrev pub Wide : ℕ → Table → Type 0
-Wide w t = All (λ (r : Row). length r ≡ w) t
+abbrev pub RowsOf : ℕ → Table → Type 0
+RowsOf w t = All (λ (r : Row). length r ≡ w) t
 
 -- one width for each table
 abbrev pub Widths : List ℕ → List Table → Type 0
 Widths [] [] = Unit {0}
 Widths [] (t ∷ ts) = ⊥
 Widths (w ∷ ws) [] = ⊥
-Widths (w ∷ ws) (t ∷ ts) = Wide w t × Widths ws ts
+Widths (w ∷ ws) (t ∷ ts) = RowsOf w t × Widths ws ts
 
-widths-at : (ws : List ℕ) (ts : List Table) (n : ℕ) → Widths ws ts → n < length ws → Wide (getD ws n 0) (tableOf ts n)
+widths-at : (ws : List ℕ) (ts : List Table) (n : ℕ) → Widths ws ts → n < length ws → RowsOf (getD ws n 0) (tableOf ts n)
 widths-at [] ts n h k = absurd (omega arith)
 widths-at (w ∷ ws) [] n h k = absurd h
 widths-at (w ∷ ws) (t ∷ ts) zero h k = h .0
 widths-at (w ∷ ws) (t ∷ ts) (suc n) h k = widths-at ws ts n (h .1) (omega arith)
 
-pub widths-more : (ws : List ℕ) (ts : List Table) (w : ℕ) (t : Table) → Widths ws ts → Wide w t
+pub widths-more : (ws : List ℕ) (ts : List Table) (w : ℕ) (t : Table) → Widths ws ts → RowsOf w t
     → Widths (ws ++ (w ∷ [])) (ts ++ (t ∷ []))
 widths-more [] [] w t h k = (k, tt)
 widths-more [] (u ∷ ts) w t h k = absurd h
@@ -67,11 +67,11 @@ widths-more (v ∷ ws) (u ∷ ts) w t h k = (h .0, widths-more ws ts w t (h .1) 
 length-snoc : (r : Row) (z : ℤ) (w : ℕ) → length r ≡ w → length (r ++ (z ∷ [])) ≡ w + 1
 length-snoc r z w e = length-append r (z ∷ []) ∙ ap (_+ 1) e
 
-wide-attach : (t : Table) (z : ℤ) (w : ℕ) → Wide w t → Wide (w + 1) (attach t z)
+wide-attach : (t : Table) (z : ℤ) (w : ℕ) → RowsOf w t → RowsOf (w + 1) (attach t z)
 unfolding attach
 wide-attach t z w h = all-mapped _ _ t (all-map t (λ r e. length-snoc r z w e) h)
 
-wide-project : (t : Table) (cs : List ℕ) → Wide (length cs) (project t cs)
+wide-project : (t : Table) (cs : List ℕ) → RowsOf (length cs) (project t cs)
 unfolding project
 wide-project t cs = all-mapped _ _ t (all-any t (λ r. length-map cs (cell r)))
 
@@ -82,51 +82,51 @@ all-gather P f [] h = tt
 all-gather P f (x ∷ xs) h = all-append P (f x) (gather f xs) (h .0) (all-gather P f xs (h .1))
 
 -- the rows that join one row
-wide-joined : (r : Row) (u : Table) (p : Row → Bool) (w v : ℕ) → length r ≡ w → Wide v u
-    → Wide (w + v) (map (λ (s : Row). r ++ s) (filter p u))
+wide-joined : (r : Row) (u : Table) (p : Row → Bool) (w v : ℕ) → length r ≡ w → RowsOf v u
+    → RowsOf (w + v) (map (λ (s : Row). r ++ s) (filter p u))
 wide-joined r u p w v e k =
     all-mapped _ _ (filter p u)
     (all-map {P = λ (s : Row). length s ≡ v} (filter p u) (λ s d. length-append r s ∙ ap₂ _+_ e d)
     (all-kept p _ u k))
 
-wide-join : (t u : Table) (c d w v : ℕ) → Wide w t → Wide v u → Wide (w + v) (join t c u d)
+wide-join : (t u : Table) (c d w v : ℕ) → RowsOf w t → RowsOf v u → RowsOf (w + v) (join t c u d)
 unfolding join
 wide-join t u c d w v h k = all-gather _ _ t (all-map t (λ r e. wide-joined r u _ w v e k) h)
 
-wide-numbered : (group : Row → Row → Bool) (earlier t : Table) (w : ℕ) → Wide w t
-    → Wide (w + 1) (numberedAfter group earlier t)
+wide-numbered : (group : Row → Row → Bool) (earlier t : Table) (w : ℕ) → RowsOf w t
+    → RowsOf (w + 1) (numberedAfter group earlier t)
 unfolding numberedAfter
 wide-numbered group earlier [] w h = tt
 wide-numbered group earlier (r ∷ rs) w h =
     (length-snoc r _ w (h .0), wide-numbered group (r ∷ earlier) rs w (h .1))
 
-wide-number : (t : Table) (p : ℕ) (ks : List ℕ) (w : ℕ) → Wide w t → Wide (w + 1) (number t p ks)
+wide-number : (t : Table) (p : ℕ) (ks : List ℕ) (w : ℕ) → RowsOf w t → RowsOf (w + 1) (number t p ks)
 unfolding number
 wide-number t p ks w h = wide-numbered _ [] _ w (all-sort _ _ t h)
 
-wide-counts : (t : Table) (c : ℕ) → Wide 2 (counts t c)
+wide-counts : (t : Table) (c : ℕ) → RowsOf 2 (counts t c)
 unfolding counts
 wide-counts t c = all-mapped _ _ (groups t c) (all-any (groups t c) (λ x. refl))
 
 -- what `each` gives, where each member gives wide rows
-given-each : {A : Type 0} {w : ℕ} (f : A → Attempt Table) (xs : List A) → All (λ x. Given (Wide w) (f x)) xs
-    → Given (Wide w) (each f xs)
+given-each : {A : Type 0} {w : ℕ} (f : A → Attempt Table) (xs : List A) → All (λ x. Given (RowsOf w) (f x)) xs
+    → Given (RowsOf w) (each f xs)
 unfolding each
 given-each f [] h = given-gives tt
 given-each f (x ∷ xs) h =
     given-attempt (h .0) (λ ys k. given-attempt (given-each f xs (h .1)) (λ zs l. given-gives (all-append _ ys zs k l)))
 
-given-added : (f : Row → Attempt ℤ) (t : Table) (w : ℕ) → Wide w t → Given (Wide (w + 1)) (added f t)
+given-added : (f : Row → Attempt ℤ) (t : Table) (w : ℕ) → RowsOf w t → Given (RowsOf (w + 1)) (added f t)
 unfolding added
 given-added f t w h =
     given-each _ t (all-map t (λ r e. given-any (f r) (λ z. given-gives (length-snoc r z w e, tt))) h)
 
-given-truths : (w : World) (t : Table) → Given (Wide 2) (truths w t)
+given-truths : (w : World) (t : Table) → Given (RowsOf 2) (truths w t)
 unfolding truths
 given-truths w t =
     given-each _ (groups t 0) (all-any (groups t 0) (λ x. given-any _ (λ b. given-gives (refl, tt))))
 
-given-steps : (w : World) (t : Table) (axis : Axis) (test : Test) → Given (Wide 2) (steps w axis test t)
+given-steps : (w : World) (t : Table) (axis : Axis) (test : Test) → Given (RowsOf 2) (steps w axis test t)
 unfolding steps
 given-steps w t axis test =
     given-each _ (groups t 0)
@@ -135,28 +135,28 @@ given-steps w t axis test =
 -- An operator on tables of known widths
 
 module _ (ws : List ℕ) (ts : List Table) (h : Widths ws ts) where
-  wide-table : (t w : ℕ) → tableWidth ws t ≡ gives w → Wide w (tableOf ts t)
+  wide-table : (t w : ℕ) → tableWidth ws t ≡ gives w → RowsOf w (tableOf ts t)
   unfolding tableWidth
   wide-table t w e =
       let (b, d) = provided-gives (ltb t (length ws)) _ w e in
-      subst (λ (v : ℕ). Wide v (tableOf ts t)) (gives-same d) (widths-at ws ts t h (ltb-true t (length ws) b))
+      subst (λ (v : ℕ). RowsOf v (tableOf ts t)) (gives-same d) (widths-at ws ts t h (ltb-true t (length ws) b))
 
   -- .. one table; the width of what is made is the one worked out
   from-one : {a : Attempt Table} (t v : ℕ) (f : ℕ → Attempt ℕ) → attempt (tableWidth ws t) f ≡ gives v
-      → ((w : ℕ) → Wide w (tableOf ts t) → f w ≡ gives v → Given (Wide v) a) → Given (Wide v) a
+      → ((w : ℕ) → RowsOf w (tableOf ts t) → f w ≡ gives v → Given (RowsOf v) a) → Given (RowsOf v) a
   from-one t v f e k = let (w, p, q) = attempt-gives (tableWidth ws t) f v e in k w (wide-table t w p) q
 
-  as-given : {a : Attempt Table} (w v : ℕ) (b : Bool) → provided b (gives w) ≡ gives v → Given (Wide w) a
-      → Given (Wide v) a
-  as-given {a} w v b e g = subst (λ (n : ℕ). Given (Wide n) a) (gives-same (provided-gives b _ v e .1)) g
+  as-given : {a : Attempt Table} (w v : ℕ) (b : Bool) → provided b (gives w) ≡ gives v → Given (RowsOf w) a
+      → Given (RowsOf v) a
+  as-given {a} w v b e g = subst (λ (n : ℕ). Given (RowsOf n) a) (gives-same (provided-gives b _ v e .1)) g
 
-  within-6 : {a : Attempt Table} (w v : ℕ) → upTo6 w ≡ gives v → Given (Wide w) a → Given (Wide v) a
+  within-6 : {a : Attempt Table} (w v : ℕ) → upTo6 w ≡ gives v → Given (RowsOf w) a → Given (RowsOf v) a
   unfolding upTo6
   within-6 w v e g = as-given w v _ e g
 
-  pub make-wide : (w : World) (o : Op) (v : ℕ) → widthOf ws o ≡ gives v → Given (Wide v) (make w o ts)
+  pub make-wide : (w : World) (o : Op) (v : ℕ) → widthOf ws o ≡ gives v → Given (RowsOf v) (make w o ts)
   unfolding widthOf make minus select rooted
-  make-wide w RT v e = subst (λ (n : ℕ). Given (Wide n) (make w RT ts)) (gives-same e) (given-gives (refl, tt))
+  make-wide w RT v e = subst (λ (n : ℕ). Given (RowsOf n) (make w RT ts)) (gives-same e) (given-gives (refl, tt))
   make-wide w (RA t z) v e =
       from-one t v _ e (λ x k q. within-6 (x + 1) v q (given-gives (wide-attach _ z x k)))
   make-wide w (RP t cs) v e =
@@ -167,7 +167,7 @@ module _ (ws : List ℕ) (ts : List Table) (h : Widths ws ts) where
       let same : x ≡ y = eqb-true x y (provided-gives (eqb x y) _ v d .0) in
       as-given x v _ d
       (given-gives
-      (all-append _ (tableOf ts t) (tableOf ts u) k (subst (λ (n : ℕ). Wide n (tableOf ts u)) (sym same) l)))))
+      (all-append _ (tableOf ts t) (tableOf ts u) k (subst (λ (n : ℕ). RowsOf n (tableOf ts u)) (sym same) l)))))
   make-wide w (RD t u) v e =
       from-one t v _ e (λ x k q. from-one u v _ q (λ y l d. as-given x v _ d (given-gives (all-kept _ _ _ k))))
   make-wide w (RS t c) v e =
@@ -263,7 +263,7 @@ read-sound bs ps e =
 
 -- A run of a sound plan
 
-pub flat-wide : (t : Table) (w : ℕ) → Wide w t → length (flat t) ≡ length t * w
+pub flat-wide : (t : Table) (w : ℕ) → RowsOf w t → length (flat t) ≡ length t * w
 unfolding flat gather
 flat-wide [] w h = sym (zero-mul w)
 flat-wide (r ∷ t) w h = omega (arith, length-append r (flat t), h .0, flat-wide t w (h .1), suc-mul (length t) w)
@@ -278,7 +278,7 @@ flat-last (t ∷ u ∷ ts) =
     (flat t ++ front, ap (λ (xs : List ℤ). flat t ++ xs) e ∙ sym (append-assoc (flat t) front _))
 
 -- one table more
-flat-more : (ts : List Table) (t : Table) (w : ℕ) → Wide w t
+flat-more : (ts : List Table) (t : Table) (w : ℕ) → RowsOf w t
     → length (gather flat ts) + length t * w ≡ length (gather flat (ts ++ (t ∷ [])))
 unfolding gather
 flat-more [] t w h = omega (arith, flat-wide t w h, ap length (append-nil (flat t)))
@@ -291,7 +291,7 @@ flat-more (u ∷ ts) t w h =
     )
 
 pub last-wide : (p : Placed) (ps : List Placed) (ts : List Table) → Widths (widthsOf (p ∷ ps)) ts
-    → Wide (lastOf p ps .width) (lastTable ts)
+    → RowsOf (lastOf p ps .width) (lastTable ts)
 unfolding lastOf lastTable
 last-wide p ps [] h = absurd h
 last-wide p [] (t ∷ []) h = h .0
@@ -327,7 +327,7 @@ running-widths w room [] ws ts n f s h k e =
     (record { widths = subst (λ (us : List ℕ). Widths us ts) (sym (append-nil ws)) h; cells = k })
 running-widths w room (p ∷ ps) ws ts n f s h k e =
     let (t, d, r) = trying-done (p .at) (make w (p .op) ts) _ f e in
-    let wide : Wide (p .width) t = make-wide ws ts h w (p .op) (p .width) (s .0) .given t d in
+    let wide : RowsOf (p .width) t = make-wide ws ts h w (p .op) (p .width) (s .0) .given t d in
     subst (λ (us : List ℕ). Laid us f) (append-assoc ws (p .width ∷ []) (widthsOf ps))
     (running-widths w room ps (ws ++ (p .width ∷ [])) (ts ++ (t ∷ [])) (n + length t * p .width) f (s .1)
     (widths-more ws ts (p .width) t h wide) (ap (_+ length t * p .width) k ∙ flat-more ts t (p .width) wide)

@@ -15,7 +15,7 @@ use Rattle.meaning.specs.Calls.{gives, Outcome, room, runCall, evaluateCall}
 use Rattle.theorems.proofs.Counts.{measured, settled}
 use Rattle.theorems.specs.Counts.{Measured}
 use Rattle.theorems.proofs.Counted.{running-measured}
-use Rattle.agreement.specs.Promises.{Passed, PlanPassed, stands, fills, SixBelow}
+use Rattle.agreement.specs.Passing.{Passed, PlanPassed, stands, fills, SixBelow}
 use Rattle.agreement.proofs.Room.{Exact, exact-short, exact-enough, evaluate-exact, running-exact}
 use Rattle.agreement.proofs.Room.{standing-count, filling-filled}
 use Rattle.agreement.proofs.EngineCalls.{ended, evaluated, ran, Plain, evaluated-plain, ran-plain, ended-six}

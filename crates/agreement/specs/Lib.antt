@@ -4,4 +4,4 @@ pub mod Encoded
 pub mod Tieless
 pub mod Machine
 pub mod Room
-pub mod Promises
+pub mod Passing

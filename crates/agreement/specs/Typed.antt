@@ -4,12 +4,35 @@
 -- pair the cells of its first part, then those of its second. Each function names the operators that it stands for.
 --     Triple                a row (iteration, place, item) of an expression's table
 --     row i p z             the row of iteration i, place p, item z
+--     iterOf, placeOf, itemOf     its three columns
 --     Loop, Vars            a loop table: its iterations; the table of each variable
---     byNumber c            a column as a key of numbering
+--     Sem                   what an expression does under a loop table, with the variables' tables
+--     byCell c, byNumber c  a column as a key of numbering: of cells, of numbers
 --     grouped c, together   the groups of numbering: by a column; the whole table
 --     extended f t          each row with what f gives for it, or that f fails at one (RF, RO)
 --     holding v t vars      the same variables, with table t for variable v
---     semL, semR ..         the operators of a rule that stand after its operands
+--     semL z, semE          QL and QB; QE
+--     firstPlaces, semR w k     QR: place 1 of each iteration; the root beside it
+--     sides a b             QS: the rows of a with 1, then those of b with 2
+--     sidesInOrder, semS    .. numbered by iteration, side, place; the rows with their new places
+--     allInOrder a          QF: the rows of a, each with its number: the new iteration
+--     itemsAlone, newLoop, mapOf     .. the variable; the new loop; rows (outer iteration, inner iteration)
+--     liftedBy m t          .. another variable, lifted by the map
+--     outerOf t m           .. the body's rows with their rows of the map
+--     outerInOrder, broughtBack      .. numbered by outer iteration, inner iteration, place; the rows with new places
+--     semF v body a vars    .. the whole rule
+--     itemsInOrder t        QI: the items of one iteration, by place
+--     truthsOf w t          .. rows (iteration, truth)
+--     thenLoop t            .. the iterations that are true
+--     keptIn l t            .. a variable, in the iterations of a branch
+--     branches, semI        .. then-part, else-part; the whole rule
+--     checked t             QO: t, where no iteration has two rows
+--     facing a b            .. rows (iteration, place), (left, right)
+--     semO w f a b          .. the whole rule
+--     countsOf, countsAndZeros, semC     QC: rows (iteration, count); zeros for the others; the rows with place 1
+--     semD w a              QD
+--     contexts, stepsOf     QX: rows (iteration, item); the step's nodes of each iteration
+--     nodesInOrder, semX    .. numbered by iteration, item; the whole rule
 --     sem w q l vars        the table of a query under a loop table, or that an operator fails
 --     semLast t             the last numbering
 --     semPlan w q           the table of the whole plan

@@ -4,3 +4,4 @@ pub mod Lines
 pub mod Verdicts
 pub mod Kept
 pub mod Examples
+pub mod SameNo

@@ -8,7 +8,7 @@
 use Prim.Native.Nat.{ℕ, _+_, _*_, _<_}
 use mathlib.Core.Path.{_≡_, refl, sym, ap, _∙_}
 use mathlib.Core.List.{List, [], _∷_, _++_, append-nil, append-assoc}
-use mathlib.Core.Bool.{Bool}
+use mathlib.Core.Bool.{Bool, true}
 use native.Mathlib.Numerals.{add-one}
 use lib.IntN.{ℤ, pos}
 use lib.ListN.{length, take, getD}
@@ -54,7 +54,8 @@ module _ (cell v : ℤ) (h : Held) (e : v ≡ cell) (d : h ≡ held v) where
 gather-append : {A B : Type 0} (f : A → List B) (xs ys : List A) → gather f (xs ++ ys) ≡ gather f xs ++ gather f ys
 unfolding gather
 gather-append f [] ys = refl
-gather-append f (x ∷ xs) ys = ap (f x ++_) (gather-append f xs ys) ∙ sym (append-assoc (f x) (gather f xs) (gather f ys))
+gather-append f (x ∷ xs) ys =
+    ap (f x ++_) (gather-append f xs ys) ∙ sym (append-assoc (f x) (gather f xs) (gather f ys))
 
 pub lines-more : (cells : List ℤ) (i : ℕ) (z : ℤ) → z ≡ getD cells i (pos 0) → i < length cells
     → gather itemLine (take i cells) ++ itemLine z ≡ gather itemLine (take (i + 1) cells)
@@ -97,8 +98,8 @@ module _ (t ran : Told) (xs : List ℤ) (evaluated : Told) (ys : List ℤ) where
   text-refused n p e = sym (ap (λ (u : Told). text u ran xs evaluated ys) e)
 
 -- where the runner gave 6, what the evaluator told does not matter
-pub text-room : (t : Told) (p : ℕ) (xs : List ℤ) (evaluated other : Told) (ys zs : List ℤ)
-    → text t (Refused 6 p) xs evaluated ys ≡ text t (Refused 6 p) xs other zs
-unfolding text verdict refusedWith
-text-room (Gave k) p xs evaluated other ys zs = refl
-text-room (Refused n q) p xs evaluated other ys zs = refl
+pub text-room : (t ran : Told) (xs : List ℤ) (evaluated other : Told) (ys zs : List ℤ) → refusedWith 6 ran ≡ true
+    → text t ran xs evaluated ys ≡ text t ran xs other zs
+unfolding text verdict
+text-room (Gave k) ran xs evaluated other ys zs e = rw e
+text-room (Refused n q) ran xs evaluated other ys zs e = refl

@@ -66,7 +66,8 @@ module _ (xs ys : List ℕ) (at : ℕ) (word : List ℕ) (i : ℕ) where
     word-more b d h k =
         set-more xs ys at i (take i word) b e (length-take-le i word (omega arith)) (omega arith)
         ∙ ap (laid xs at)
-        (ap (λ (v : ℕ). take i word ++ (v ∷ [])) d ∙ sym (take-suc word i 0 h) ∙ ap (λ (k : ℕ). take k word) (sym (add-one i)))
+        (ap (λ (v : ℕ). take i word ++ (v ∷ [])) d ∙ sym (take-suc word i 0 h)
+        ∙ ap (λ (k : ℕ). take k word) (sym (add-one i)))
 
     pub word-put : length word ≤ i → at + length word ≤ length xs → Put xs ys at word (at + length word)
     word-put h k = record { written = e ∙ ap (laid xs at) (take-all i word h); ended = refl; fits = k }

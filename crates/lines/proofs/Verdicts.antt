@@ -89,7 +89,8 @@ unfolding agree
 gave-alike xs ys n m t e d =
     ap (λ (k : ℕ). sameRow (take n xs) (take k ys)) e ∙ sym (ap (λ (u : Told). agree (Gave n) xs u ys) d)
 
-pub gave-unlike : (xs ys : List ℤ) (n m : ℕ) (t : Told) → n ≤ length xs → Stands (length ys) t → (n ≡ m → ⊥) → t ≡ Gave m
+pub gave-unlike : (xs ys : List ℤ) (n m : ℕ) (t : Told) → n ≤ length xs → Stands (length ys) t → (n ≡ m → ⊥)
+    → t ≡ Gave m
     → false ≡ agree (Gave n) xs t ys
 unfolding agree
 gave-unlike xs ys n m t h s f d =
@@ -119,11 +120,13 @@ module _ (ran : Told) (xs : List ℤ) (evaluated : Told) (ys : List ℤ) where
   unfolding verdict
   second-room e = by-test (refusedWith 6 ran)
     where
-      by-test : (t : Bool) → Room ≡ cond (t || refusedWith 6 evaluated) Room (cond (agree ran xs evaluated ys) Agree Differ)
+      by-test : (t : Bool) → Room ≡ cond (t || refusedWith 6 evaluated) Room
+          (cond (agree ran xs evaluated ys) Agree Differ)
       by-test true = refl
       by-test false = rw e
 
-  pub by-agree : (t : Bool) → refusedWith 6 ran ≡ false → refusedWith 6 evaluated ≡ false → agree ran xs evaluated ys ≡ t
+  pub by-agree : (t : Bool) → refusedWith 6 ran ≡ false → refusedWith 6 evaluated ≡ false
+      → agree ran xs evaluated ys ≡ t
       → cond t Agree Differ ≡ verdict ran xs evaluated ys
   unfolding verdict
   by-agree t e d h = rw (e, d, h)

@@ -1,5 +1,6 @@
--- What the printing program prints for the bytes of its two files (document 01, 'Marked examples', from 'Program `chartask`'
--- on).
+-- What the printing program prints for the bytes of its two files (document 01, 'Marked examples', from 'Program
+-- `chartask`' on).
+--     valueOf k a             value k of an answer, 0 of a refusal
 --     toldBy k a              an answer as it is told, value k its number
 --     runItems o              the runner's items: column 2 of its last table
 --     printed doc query       the text: the plan's bytes go to the runner, 8,192 cells to each engine

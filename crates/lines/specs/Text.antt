@@ -1,18 +1,29 @@
--- What the printing program prints (document 01, 'Marked examples', from 'Program `chartask`' on). A text is a list of bytes,
--- each the ASCII number of a character.
+-- What the printing program prints (document 01, 'Marked examples', from 'Program `chartask`' on). A text is a list of
+-- bytes, each the ASCII number of a character.
+--     Text                a list of bytes
+--     itemsWord, intWord, boolWord, nodeWord     the words that open a line, each with the space behind it
+--     refusedWord, atWord, sameWord              .. `refused `, ` at `, `same `
+--     yesWord, noWord, roomWord                  the three verdicts
+--     lineEnd, minus      the end of a line; the sign
+--     truthDigit b        0 or 1
 --     digits k n          n in decimal, k digits at most
 --     decimal n           n in decimal: twenty digits are enough for 64 bits
 --     signed z            .. with its sign
---     itemLine z          the item of a cell: `int Z`, `bool 0`, `bool 1` or `node R`; a cell that holds no item has no line
+--     integerLine z, truthLine b, nodeLine r     `int Z`; `bool 0` or `bool 1`; `node R`
+--     heldLine h          the line of what a cell holds; a cell that holds no item has no line
+--     itemLine z          the line of a cell's item
 --     refusedLine n p     `refused n at p`
+--     itemsLine n         `items N`
 --     firstLines t xs     `items N` and a line for each of the items xs; or the refusal
 --     refusedWith n t     t is a refusal with number n
 --     agree ..            both gave the same items, or both refused with the same number
 --     verdict ..          room where either gave 6; else whether the engines agree
 --     sameLine v          `same yes`, `same no` or `same room`
---     text ..             all lines: from what the translator, the runner and the evaluator told, and the items of the two
---                         engines
+--     text ..             all lines: of what the translator, the runner and the evaluator told, and both engines' items
+--     sameNo              the bytes `same no`
+--     Nowhere word t      the bytes of a word stand nowhere in text t
 use Prim.Native.Nat.{ℕ, zero, suc, _+_, _/_, _%_}
+use mathlib.Core.Path.{_≡_}
 use mathlib.Core.List.{List, [], _∷_, _++_}
 use mathlib.Core.Bool.{Bool, true, false, cond, _||_}
 use lib.Dec.{ltb, eqb}
@@ -137,3 +148,9 @@ sameLine Room = sameWord ++ (roomWord ++ lineEnd)
 unfoldable pub text : Told → Told → List ℤ → Told → List ℤ → Text
 text (Refused n p) ran xs evaluated ys = refusedLine n p
 text (Gave k) ran xs evaluated ys = firstLines ran xs ++ sameLine (verdict ran xs evaluated ys)
+
+abbrev pub sameNo : Text
+sameNo = sameWord ++ noWord
+
+abbrev pub Nowhere : Text → Text → Type 0
+Nowhere word t = (before after : Text) → ¬ (t ≡ before ++ (word ++ after))

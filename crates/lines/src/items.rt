@@ -55,7 +55,8 @@ fn put_item(text: &mut [u8], at: usize, cell: i64) -> usize
 // The lines of the first n items, one after another.
 pub fn put_items(text: &mut [u8], at: usize, cells: &[i64], n: usize) -> usize
     requires { ⌜ (at + 32 * n ≤ length (now text)) × (n ≤ length (now cells)) ⌝ }
-    ensures { λ r. ⌜ Put (now (text .entry)) (now (text .exit)) at (gather Text.itemLine (take n (now (cells .entry)))) r
+    ensures { λ r. ⌜ Put (now (text .entry)) (now (text .exit)) at (gather Text.itemLine (take n (now (cells .entry))))
+        r
         × (r ≤ at + 32 * n) ⌝ }
 {
     let mut end = at;

@@ -23,7 +23,8 @@ pub enum Verdict {
     Room,
 }
 
-// Copies the items of the runner's last table, its column 2, so that the cells can be lent again. Each row is looked at once.
+// Copies the items of the runner's last table, its column 2, so that the cells can be lent again. Each row is looked
+// at once.
 pub fn keep(work: &[i64], start: usize, rows: usize, kept: &mut [i64])
     requires { ⌜ (start + rows * 3 ≤ length (now work)) × (rows ≤ length (now kept)) ⌝ }
     ensures { λ r. ⌜ now (kept .exit)
@@ -73,8 +74,8 @@ fn put_verdict(text: &mut [u8], at: usize, v: Verdict) -> usize
     }
 }
 
-// All lines, and how many bytes they are: the translator's refusal; or what the runner told and gave, and whether the evaluator
-// told and gave the same.
+// All lines, and how many bytes they are: the translator's refusal; or what the runner told and gave, and whether the
+// evaluator told and gave the same.
 pub fn write(
     text: &mut [u8],
     translated: Told,

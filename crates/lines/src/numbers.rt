@@ -57,7 +57,8 @@ pub fn put_number(text: &mut [u8], at: usize, n: usize) -> usize
 // A word, a number in decimal, and the line's end.
 pub fn put_line(text: &mut [u8], at: usize, word: &[u8], n: usize) -> usize
     requires { ⌜ at + length (now word) + 21 ≤ length (now text) ⌝ }
-    ensures { λ r. ⌜ Put (now (text .entry)) (now (text .exit)) at (now (word .entry) ++ (Text.decimal n ++ Text.lineEnd)) r
+    ensures { λ r. ⌜ Put (now (text .entry)) (now (text .exit)) at
+        (now (word .entry) ++ (Text.decimal n ++ Text.lineEnd)) r
         × (r ≤ at + length (now (word .entry)) + 21) ⌝ }
 {
     let a = put_word(text, at, word);

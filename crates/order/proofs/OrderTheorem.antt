@@ -31,7 +31,7 @@ use Rattle.agreement.specs.Typed.{semPlan}
 use Rattle.agreement.specs.Families.{placed, SameItems, bothGive, bothFail}
 use Rattle.agreement.specs.Encoded.{encode}
 use Rattle.agreement.specs.Tieless.{alike, Untied, Tieless}
-use Rattle.agreement.specs.Promises.{Passed, means}
+use Rattle.agreement.specs.Passing.{Passed, means}
 use Rattle.agreement.proofs.Choices.{items-placed}
 use Rattle.agreement.proofs.Distinct.{distinct-places}
 use Rattle.agreement.proofs.Encoded.{items-encoded}

@@ -21,7 +21,7 @@ use Rattle.meaning.specs.Plan.{Placed, planRead}
 use Rattle.meaning.specs.Operators.{Table, itemsInOrder}
 use Rattle.meaning.specs.Run.{Filled, Hand, running, runningBy}
 use Rattle.meaning.specs.Calls.{gives, lastTable, translateCall}
-use Rattle.agreement.specs.Promises.{Passed, means}
+use Rattle.agreement.specs.Passing.{Passed, means}
 use Rattle.order.specs.Shuffled.{Shuffles, SameWork}
 
 pub record Unmoved (items : Attempt (List ℤ)) (plain by : Work Filled) : Type 0 where

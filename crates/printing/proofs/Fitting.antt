@@ -7,9 +7,10 @@
 use Prim.Native.Nat.{ℕ, _+_, _-_, _*_, _≤_}
 use mathlib.Core.Path.{_≡_, refl, sym, ap, subst, subst₂}
 use mathlib.Core.List.{List, [], _∷_}
+use mathlib.Core.Bool.{Bool, true, false, cond}
+use lib.Dec.{eqb}
+use lib.IntN.{ℤ}
 use native.Mathlib.Omega.{arith}
-use borrow.Author.Tests.{leb-true}
-use lib.Dec.{leb}
 use lib.ListN.{length, length-append}
 use Rattle.laws.specs.Attempt.{Reading, refuses, reads, Work, full, failed, done, Found}
 use Rattle.meaning.specs.Catalogue.{catalogueRead}
@@ -19,35 +20,23 @@ use Rattle.meaning.specs.Counted.{Standing, evaluate}
 use Rattle.meaning.specs.Plan.{Op, Placed, planRead}
 use Rattle.meaning.specs.Operators.{Table}
 use Rattle.meaning.specs.Run.{Filled, running}
-use Rattle.meaning.specs.Translation.{plan}
 use Rattle.meaning.specs.Written.{written}
-use Rattle.meaning.specs.Calls.{Answer, refusal, room, planOf, lastTable, translateOutcome, runOutcome}
+use Rattle.meaning.specs.Calls.{Answer, gives, refused, Outcome, refusal, room, lastTable, translateOutcome, runOutcome}
 use Rattle.laws.specs.Rows.{flat}
 use Rattle.meaning.specs.Calls.{evaluateOutcome, translateCall, runCall, evaluateCall}
-use Rattle.laws.proofs.Outcomes.{found-reads, found-unless, found-reading}
+use Rattle.laws.proofs.Outcomes.{found-reads, found-reading}
 use Rattle.theorems.proofs.Counts.{counts}
 use Rattle.theorems.proofs.Counted.{running-fits}
-use Rattle.agreement.proofs.RowWidths.{Wide, Widths, widthsOf, LastThree, read-sound, flat-wide, flat-last}
-use Rattle.agreement.proofs.RowWidths.{last-wide, Laid, running-laid}
+use Rattle.agreement.proofs.RowWidths.{widthsOf, read-sound, flat-wide, flat-last, Laid, running-laid}
+use Rattle.agreement.proofs.Answers.{last-three, room-lent, found-same, plan-long}
 use Rattle.lines.specs.declared.Told.{Told}
+use Rattle.lines.specs.Text.{refusedWith}
 use Rattle.lines.specs.Printed.{valueOf, toldBy}
 use Rattle.lines.specs.Placed.{Stands, roomFor}
-use Rattle.printing.specs.Engines.{Within}
+use Rattle.printing.specs.Engines.{second, Within}
 use Rattle.printing.proofs.Keeping.{rows-stand, rows-room}
 
--- what was read, as it was read
-found-same : {A : Type 0} (m : Reading A) → Found (λ x. m ≡ reads x) m
-found-same m = record { found = λ x e. e }
-
-room-lent : (lent : ℕ) → room lent ≤ lent
-unfolding room
-room-lent lent = omega arith
-
 -- The runner
-
-last-three : (ps : List Placed) (ts : List Table) → LastThree ps → Widths (widthsOf ps) ts → Wide 3 (lastTable ts)
-last-three [] ts l h = absurd l
-last-three (p ∷ ps) ts l h = subst (λ (w : ℕ). Wide w (lastTable ts)) l (last-wide p ps ts h)
 
 done-within : (bytes : List ℕ) (ps : List Placed) (w : World) (lent : ℕ) (f : Filled) → planRead bytes ≡ reads ps
     → running w (room lent) ps [] 0 ≡ done f
@@ -117,12 +106,6 @@ items-stand query doc lent a e =
 
 -- The translator
 
-plan-long : (lent : ℕ) (q : Query) → Found (λ os. length (written os) ≤ lent) (planOf lent q)
-unfolding planOf
-plan-long lent q =
-    found-unless (leb (length (plan q)) 512) 2 0
-    (λ _. found-unless (leb (length (written (plan q))) lent) 8 0 (λ t. found-reads (leb-true _ lent t)))
-
 outcome-long : (lent : ℕ) (m : Reading (List Op)) → Found (λ os. length (written os) ≤ lent) m
     → valueOf 1 (translateOutcome lent m .answer) ≤ lent
 unfolding translateOutcome refusal valueOf
@@ -137,21 +120,36 @@ plan-within query lent a e =
 
 -- The lent slices, as they are handed on
 
-pub keep-fits : (bytes doc : List ℕ) (l m k : ℕ) (a : Answer) → a ≡ runCall bytes doc l .answer → l ≡ 8192 → m ≡ l → 2730 ≤ k
+pub keep-fits : (bytes doc : List ℕ) (l m k : ℕ) (a : Answer) → a ≡ runCall bytes doc l .answer → l ≡ 8192 → m ≡ l
+    → 2730 ≤ k
     → Within a m × (valueOf 1 a ≤ k)
 keep-fits bytes doc l m k a e h g j =
     let w = run-within bytes doc l a e in
     (omega arith, omega arith)
 
-pub write-fits : (query bytes doc : List ℕ) (l m n k j t : ℕ) (ra ea : Answer) (ran evaluated : Told)
-    → ran ≡ toldBy 1 ra → evaluated ≡ toldBy 0 ea → ra ≡ runCall bytes doc l .answer
-    → ea ≡ evaluateCall query doc m .answer → l ≡ 8192 → n ≡ m → 2730 ≤ k → j ≡ k → 87488 ≤ t
+-- what the evaluator gave, where it was asked
+second-stands : (a : Answer) (cells : List ℤ) (query doc : List ℕ)
+    → Stands (length cells) (toldBy 0 (second a cells query doc .answer))
+unfolding second refusedWith toldBy Stands
+second-stands (gives ns) cells query doc = items-stand query doc (length cells) _ refl
+second-stands (refused n p) cells query doc = by-test (eqb n 6)
+  where
+    by-test : (b : Bool) →
+        let o : Outcome ℤ =
+        cond b (record { answer = refused n p; left = cells }) (evaluateCall query doc (length cells)) in
+        Stands (length cells) (toldBy 0 (o .answer))
+    by-test true = tt
+    by-test false = items-stand query doc (length cells) _ refl
+
+pub write-fits : (query bytes doc : List ℕ) (l n k j t : ℕ) (ra : Answer) (cells : List ℤ) (ran evaluated : Told)
+    → ran ≡ toldBy 1 ra → evaluated ≡ toldBy 0 (second ra cells query doc .answer) → ra ≡ runCall bytes doc l .answer
+    → l ≡ 8192 → n ≡ length cells → 2730 ≤ k → j ≡ k → 87488 ≤ t
     → ((128 ≤ t) × (roomFor ran ≤ t)) × (Stands j ran × Stands n evaluated)
-write-fits query bytes doc l m n k j t ra ea ran evaluated hr he ha hb hl hn hk hj ht =
+write-fits query bytes doc l n k j t ra cells ran evaluated hr he ha hl hn hk hj ht =
     let w = run-within bytes doc l ra ha in (
       (omega arith, subst (λ (x : Told). roomFor x ≤ t) (sym hr) (rows-room ra t (omega arith) ht)),
       (
         subst (Stands j) (sym hr) (rows-stand ra j (omega arith)),
-        subst₂ Stands (sym hn) (sym he) (items-stand query doc m ea hb),
+        subst₂ Stands (sym hn) (sym he) (second-stands ra cells query doc),
       ),
     )

@@ -1,6 +1,7 @@
 -- The runner's items, kept in cells of their own, are printed as they stood in the runner's cells.
 --     kept-none       after a refusal nothing is kept
 --     kept-fits, kept-tables     the last table's rows, and their items
+--     not-asked, asked           after 6 the evaluator is not asked; else what it tells and leaves
 --     rows-stand      the kept rows stand there
 --     rows-room       the bytes that are enough for their lines
 --     text-kept       the text of the kept items
@@ -16,7 +17,7 @@ use lib.Seq.{take-at, take-all}
 use Rattle.laws.specs.Rows.{rowsAt, laid}
 use Rattle.laws.proofs.Rows.{length-rowsAt, laid-nothing}
 use Rattle.meaning.specs.Operators.{column}
-use Rattle.meaning.specs.Calls.{Answer, gives, refused}
+use Rattle.meaning.specs.Calls.{Answer, gives, refused, Outcome, evaluateCall}
 use Rattle.runner.specs.declared.Ran.{Ran}
 use Rattle.runner.specs.declared.Ran.the-variants.{Tables, BadPlan, BadCatalogue, Full, Fails}
 use Rattle.runner.proofs.Ran.{the-type}
@@ -26,7 +27,7 @@ use Rattle.lines.specs.declared.Told.the-variants.{Gave, Refused}
 use Rattle.lines.specs.Text.{firstLines, refusedWith, agree, verdict, text}
 use Rattle.lines.specs.Printed.{valueOf, toldBy}
 use Rattle.lines.specs.Placed.{Stands, roomFor}
-use Rattle.printing.specs.Engines.{Within}
+use Rattle.printing.specs.Engines.{second, Within}
 
 -- Keeping
 
@@ -54,6 +55,38 @@ module _ (ran : Ran) (s r f : ℕ) where
       → zs ≡ laid ys 0 (itemsOf cells (answered ran))
   unfolding answered valueOf
   kept-tables cells ys zs e h = h ∙ sym (ap (λ (x : Ran). laid ys 0 (itemsOf cells (answered x))) e)
+
+-- Asking the evaluator
+
+pub not-asked : (ran : Ran) (p : ℕ) (cells : List ℤ) (query doc : List ℕ) → ran ≡ Full p
+    → (Refused 6 p ≡ toldBy 0 (second (answered ran) cells query doc .answer))
+    × (cells ≡ second (answered ran) cells query doc .left)
+unfolding second answered toldBy refusedWith
+not-asked ran p cells query doc e = (
+  sym (ap (λ (x : Ran). toldBy 0 (second (answered x) cells query doc .answer)) e),
+  sym (ap (λ (x : Ran). second (answered x) cells query doc .left) e),
+)
+
+second-asked : (ran : Ran) (cells : List ℤ) (query doc : List ℕ)
+    → OneOf (0 ∷ 1 ∷ 2 ∷ 4 ∷ []) (tagOf the-type ran)
+    → second (answered ran) cells query doc ≡ evaluateCall query doc (length cells)
+unfolding second answered toldBy refusedWith
+second-asked (Tables s r f) cells query doc h = refl
+second-asked (BadPlan p) cells query doc h = refl
+second-asked (BadCatalogue p) cells query doc h = refl
+second-asked (Full p) cells query doc h = absurd (miss (0 ∷ 1 ∷ 2 ∷ 4 ∷ []) 3 tt h)
+second-asked (Fails p) cells query doc h = refl
+
+pub asked : (ran : Ran) (cells zs : List ℤ) (query doc : List ℕ) (a : Answer) (told : Told)
+    → OneOf (0 ∷ 1 ∷ 2 ∷ 4 ∷ []) (tagOf the-type ran) → told ≡ toldBy 0 a
+    → a ≡ evaluateCall query doc (length cells) .answer → zs ≡ evaluateCall query doc (length cells) .left
+    → (told ≡ toldBy 0 (second (answered ran) cells query doc .answer))
+    × (zs ≡ second (answered ran) cells query doc .left)
+asked ran cells zs query doc a told h d e f =
+    let o = sym (second-asked ran cells query doc h) in (
+      d ∙ ap (toldBy 0) (e ∙ ap (λ (x : Outcome ℤ). x .answer) o),
+      f ∙ ap (λ (x : Outcome ℤ). x .left) o,
+    )
 
 -- Printing
 

@@ -1,3 +1,4 @@
 pub mod Keeping
 pub mod Fitting
+pub mod NeverNo
 pub mod Joined

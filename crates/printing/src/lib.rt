@@ -5,15 +5,14 @@ use runner::Ran;
 use translator::Translated;
 ghost use mathlib.Core.Path.{_≡_};
 ghost use Prim.Native.Nat.{_+_, _*_, _≤_};
-ghost use lib.ListN.{length, take};
+ghost use lib.ListN.{length};
 ghost use Rattle.laws.specs.Rows.{rowsAt, laid};
 ghost use Rattle.meaning.specs.Operators.{column};
 ghost use Rattle.translator.specs.Answers as Translator;
 ghost use Rattle.runner.specs.Answers as Runner;
 ghost use Rattle.evaluator.specs.Answers as Evaluator;
-ghost use Rattle.lines.specs.Placed.{Put};
-ghost use Rattle.lines.specs.Printed.{valueOf, toldBy, printed};
-ghost use Rattle.printing.specs.Engines.{engines, Within};
+ghost use Rattle.lines.specs.Printed.{valueOf, toldBy};
+ghost use Rattle.printing.specs.Engines.{second, Within, Ends, Tells};
 
 // What the translator told: its operators, or its refusal.
 fn plan_told(translated: Translated) -> Told
@@ -58,9 +57,11 @@ fn evaluation_told(evaluated: Evaluated) -> Told
 
 // Keeps the items of the runner's last table; there are none after a refusal.
 fn keep_items(ran: Ran, work: &[i64], kept: &mut [i64])
-    requires { ⌜ Within (Runner.answered ran) (length (now work)) × (valueOf 1 (Runner.answered ran) ≤ length (now kept)) ⌝ }
+    requires { ⌜ Within (Runner.answered ran) (length (now work))
+        × (valueOf 1 (Runner.answered ran) ≤ length (now kept)) ⌝ }
     ensures { λ r. ⌜ now (kept .exit) ≡ laid (now (kept .entry)) 0
-        (column (rowsAt (now (work .entry)) (valueOf 0 (Runner.answered ran)) (valueOf 1 (Runner.answered ran)) 3) 2) ⌝ }
+        (column (rowsAt (now (work .entry)) (valueOf 0 (Runner.answered ran))
+        (valueOf 1 (Runner.answered ran)) 3) 2) ⌝ }
 {
     let Ran::Tables { start, rows, .. } = ran else {
         return;
@@ -68,8 +69,23 @@ fn keep_items(ran: Ran, work: &[i64], kept: &mut [i64])
     lines::keep(work, start, rows, kept);
 }
 
-// Runs the plan, evaluates the query in the same cells, and writes what both told. The runner's items are kept before the cells are
-// lent again.
+// What the evaluator told, in the same cells. Where the runner had no room the text is decided, and the evaluator is
+// not asked: it could take for ever.
+fn second_told(ran: Ran, query: &[u8], doc: &[u8], work: &mut [i64]) -> Told
+    ensures { λ r. ⌜
+        (r ≡ toldBy 0 (second (Runner.answered ran) (now (work .entry)) (now (query .entry))
+        (now (doc .entry)) .answer))
+        × (now (work .exit) ≡ second (Runner.answered ran) (now (work .entry)) (now (query .entry))
+        (now (doc .entry)) .left) ⌝ }
+{
+    match ran {
+        Ran::Full(p) => Told::Refused(6, p),
+        _ => evaluation_told(evaluator::evaluate(query, doc, work)),
+    }
+}
+
+// Runs the plan, evaluates the query in the same cells, and writes what both told. The runner's items are kept before
+// the cells are lent again.
 fn both(
     translated: Told,
     query: &[u8],
@@ -81,24 +97,17 @@ fn both(
 ) -> usize
     requires { ⌜ length (now work) ≡ 8192 ⌝ }
     requires { ⌜ (2730 ≤ length (now kept)) × (87488 ≤ length (now text)) ⌝ }
-    ensures { λ r. ⌜ Put (now (text .entry)) (now (text .exit)) 0
-        (engines translated (now (query .entry)) (now (plan .entry)) (now (doc .entry))) r ⌝ }
+    ensures { λ r. ⌜ Ends translated (now (query .entry)) (now (plan .entry)) (now (doc .entry)) (now (kept .entry))
+        (now (kept .exit)) (now (work .exit)) (now (text .entry)) (now (text .exit)) r ⌝ }
 {
     let ran = runner::run(plan, doc, work);
     keep_items(ran, work, kept);
-    let evaluated = evaluator::evaluate(query, doc, work);
-    lines::write(
-        text,
-        translated,
-        run_told(ran),
-        kept,
-        evaluation_told(evaluated),
-        work,
-    )
+    let told = second_told(ran, query, doc, work);
+    lines::write(text, translated, run_told(ran), kept, told, work)
 }
 
-// Writes what `chartask` prints for a query and a catalogue, and answers how many bytes it is. The plan's bytes alone go to the
-// runner; after a translator's refusal no engine is called.
+// Writes what `chartask` prints for a query and a catalogue, and answers how many bytes it is. The plan's bytes alone
+// go to the runner; after a translator's refusal no engine is called.
 pub fn tell(
     query: &[u8],
     doc: &[u8],
@@ -109,8 +118,9 @@ pub fn tell(
 ) -> usize
     requires { ⌜ (length (now plan) ≡ 6144) × (length (now work) ≡ 8192) ⌝ }
     requires { ⌜ (2730 ≤ length (now kept)) × (87488 ≤ length (now text)) ⌝ }
-    ensures { λ r. ⌜ (take r (now (text .exit)) ≡ printed (now (doc .entry)) (now (query .entry)))
-        × (r ≤ length (now (text .exit))) ⌝ }
+    ensures { λ r. ⌜ Tells (now (query .entry)) (now (doc .entry)) (now (plan .exit)) (now (work .entry))
+        (now (work .exit))
+        (now (kept .entry)) (now (kept .exit)) (now (text .entry)) (now (text .exit)) r ⌝ }
 {
     let translated = translator::translate(query, plan);
     let told = plan_told(translated);

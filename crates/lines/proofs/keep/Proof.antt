@@ -1,5 +1,5 @@
--- `lines::keep` meets its contract. The invariant: the items of the first i rows are copied. The measure is how many rows are
--- left.
+-- `lines::keep` meets its contract. The invariant: the items of the first i rows are copied. The measure is how many
+-- rows are left.
 use Prim.Native.Nat.{_-_, _≤_}
 use mathlib.Core.Path.{_≡_, refl}
 use native.Mathlib.Omega.{arith}
@@ -19,7 +19,11 @@ abbrev μ-loop : tie.MeasureT-loop
 μ-loop work start rows kept₀ i₀ kept i = rows - i
 
 loop-holds : tie.Need-loop-holds Inv-loop μ-loop
-loop-holds c = (omega arith, kept-none (c .args .work .now) 3 2 (omega arith) (c .args .kept .now) (c .args .start), refl)
+loop-holds c = (
+  omega arith,
+  kept-none (c .args .work .now) 3 2 (omega arith) (c .args .kept .now) (c .args .start),
+  refl,
+)
 
 mul-kept : tie.Need-mul-kept Inv-loop μ-loop
 mul-kept c = omega arith
@@ -52,7 +56,8 @@ loop-again : tie.Need-loop-again Inv-loop μ-loop
 loop-again c =
     let at = c .before .before in (
       omega arith,
-      kept-more _ _ _ (omega arith) _ _ _ _ _ (at .loop .inv .1) (omega arith) (toZ-ofZ (record { sfits = c .kept .given })),
+      kept-more _ _ _ (omega arith) _ _ _ _ _ (at .loop .inv .1) (omega arith)
+          (toZ-ofZ (record { sfits = c .kept .given })),
       simp length-set (at .loop .inv .2),
     )
 

@@ -25,8 +25,12 @@ put-items-requires c κs =
     let count = c .before .before .before in
     let case = count .before .before .before .before in
     let start = case .before .before .before in (
-      omega
-          (arith, room-gave _ (start .args .cells .now) _ (case .told .given .1), count .put-line .kept .0, count .put-line .ensures .1),
+      omega (
+        arith,
+        room-gave _ (start .args .cells .now) _ (case .told .given .1),
+        count .put-line .kept .0,
+        count .put-line .ensures .1,
+      ),
       stands-gave _ _ _ (case .told .given .1) (start .pre .1),
     )
 
@@ -69,7 +73,11 @@ returns-2 c =
     let case = line .before .before .before in
     let start = case .before .before .before in (
       put-is _ _ _ _ _ (line .put-refusal .ensures .0) _ (first-refused _ _ _ _ (case .told2 .given .1)),
-      omega (arith, room-refused _ (start .args .cells .now) _ _ (case .told2 .given .1), line .put-refusal .ensures .1),
+      omega (
+        arith,
+        room-refused _ (start .args .cells .now) _ _ (case .told2 .given .1),
+        line .put-refusal .ensures .1,
+      ),
     )
 
 pub put-first-spec : {M : Type 1} → statement M

@@ -24,8 +24,13 @@ put-line-requires : tie.Need-put-line-requires
 put-line-requires c κs =
     let number = c .before .before .before .before in
     let word = number .before .before .before .before in
-    omega
-    (arith, word .put-word .kept .0, word .put-word .ensures .ended, number .put-number .kept .0, number .put-number .ensures .1)
+    omega (
+      arith,
+      word .put-word .kept .0,
+      word .put-word .ensures .ended,
+      number .put-number .kept .0,
+      number .put-number .ensures .1,
+    )
 
 same-length : tie.Need-same-length
 same-length c =

@@ -50,7 +50,8 @@ returns-2 : tie.Need-returns-2
 unfolding sameLine
 returns-2 c =
     let word = c .before .before in
-    put-is _ _ _ _ _ (word .put-word2 .ensures) _ (sym (ap sameLine (word .before .before .before .enum-told2 .given .1)))
+    put-is _ _ _ _ _ (word .put-word2 .ensures) _
+    (sym (ap sameLine (word .before .before .before .enum-told2 .given .1)))
 
 same-length-3 : tie.Need-same-length-3
 same-length-3 c = c .before .before .put-word3 .kept .0
@@ -59,7 +60,8 @@ returns-3 : tie.Need-returns-3
 unfolding sameLine
 returns-3 c =
     let word = c .before .before in
-    put-is _ _ _ _ _ (word .put-word3 .ensures) _ (sym (ap sameLine (word .before .before .before .enum-told3 .given .1)))
+    put-is _ _ _ _ _ (word .put-word3 .ensures) _
+    (sym (ap sameLine (word .before .before .before .enum-told3 .given .1)))
 
 pub put-verdict-spec : {M : Type 1} → statement M
 put-verdict-spec =

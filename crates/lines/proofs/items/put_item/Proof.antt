@@ -24,7 +24,8 @@ returns : tie.Need-returns
 returns c =
     let item = c .before .before in (
       put-is _ _ _ _ _ (put-none _ _ (omega arith)) _
-          (line-stray _ _ _ (toZ-ofZ (item .before .before .fits .cell)) (item .item-of .ensures) (c .enum-told .given .1)),
+          (line-stray _ _ _ (toZ-ofZ (item .before .before .fits .cell)) (item .item-of .ensures)
+          (c .enum-told .given .1)),
       omega arith,
     )
 
@@ -63,7 +64,8 @@ returns-2 c =
     let held = case .before .before .before .before in
     let item = held .before .before in (
       put-is _ _ _ _ _ (line .put-integer .ensures .0) _
-          (line-integer _ _ _ (toZ-ofZ (item .before .before .fits .cell)) (item .item-of .ensures) _ (held .held .given .1) _ _
+          (line-integer _ _ _ (toZ-ofZ (item .before .before .fits .cell)) (item .item-of .ensures) _
+          (held .held .given .1) _ _
           (toZ-ofZ (narrow case)) (case .before .item .given .1)),
       line .put-integer .ensures .1,
     )
@@ -78,7 +80,8 @@ returns-3 c =
     let held = case .before .before .before .before in
     let item = held .before .before in (
       put-is _ _ _ _ _ (line .put-truth .ensures .0) _
-          (line-truth _ _ _ (toZ-ofZ (item .before .before .fits .cell)) (item .item-of .ensures) _ (held .held .given .1) _
+          (line-truth _ _ _ (toZ-ofZ (item .before .before .fits .cell)) (item .item-of .ensures) _
+          (held .held .given .1) _
           (case .before .item2 .given .1)),
       line .put-truth .ensures .1,
     )
@@ -94,7 +97,8 @@ returns-4 c =
     let held = case .before .before .before .before in
     let item = held .before .before in (
       put-is _ _ _ _ _ (line .put-line .ensures .0) _
-          (line-node _ _ _ (toZ-ofZ (item .before .before .fits .cell)) (item .item-of .ensures) _ (held .held .given .1) _
+          (line-node _ _ _ (toZ-ofZ (item .before .before .fits .cell)) (item .item-of .ensures) _
+          (held .held .given .1) _
           (case .before .item3 .given .1)),
       omega (arith, line .put-line .ensures .1),
     )

@@ -1,5 +1,5 @@
--- `lines::items::put_items` meets its contract. The invariant: the lines of the first i items stand there. The measure is how
--- many items are left.
+-- `lines::items::put_items` meets its contract. The invariant: the lines of the first i items stand there. The measure
+-- is how many items are left.
 use Prim.Native.Nat.{ℕ, _+_, _-_, _*_, _≤_}
 use mathlib.Core.Path.{_≡_, ap}
 use native.Mathlib.Omega.{arith}
@@ -63,7 +63,8 @@ returns c =
     let at = c .before in
     let start = at .before .before in
     let all-put : at .loop .i ≡ start .args .n = omega arith in (
-      put-is _ _ _ _ _ (at .loop .inv .2) _ (ap (λ (k : ℕ). gather itemLine (take k (start .args .cells .now))) all-put),
+      put-is _ _ _ _ _ (at .loop .inv .2) _
+          (ap (λ (k : ℕ). gather itemLine (take k (start .args .cells .now))) all-put),
       omega arith,
     )
 

@@ -1,5 +1,5 @@
--- `lines::items::same_items` meets its contract. The invariant: the cells that are left are the same exactly where all are. The
--- measure is how many are left.
+-- `lines::items::same_items` meets its contract. The invariant: the cells that are left are the same exactly where all
+-- are. The measure is how many are left.
 use Prim.Native.Nat.{_-_, _≤_}
 use mathlib.Core.Path.{_≡_, sym, ap₂, _∙_}
 use native.Mathlib.Omega.{arith}

@@ -1,5 +1,5 @@
--- `lines::numbers::put_digits` meets its contract: the digits before the last by the function's own promise, then the last.
--- The measure is how many digits are left.
+-- `lines::numbers::put_digits` meets its contract: the digits before the last by the function's own promise, then the
+-- last. The measure is how many digits are left.
 use Prim.Native.Nat.{ℕ, _<_}
 use native.Mathlib.Omega.{arith}
 use lib.ListN.{length-set}
@@ -53,13 +53,15 @@ put-digits-returns-2 t c = (
 put-digits-sub-put-digits : (t : ℕ) → put-digits-lts.Need-sub-put-digits (calls t) (put-digits-at t) put-digits.Post
 put-digits-sub-put-digits t c = omega arith
 
-put-digits-put-digits-requires : (t : ℕ) → put-digits-lts.Need-put-digits-requires (calls t) (put-digits-at t) put-digits.Post
+put-digits-put-digits-requires : (t : ℕ)
+    → put-digits-lts.Need-put-digits-requires (calls t) (put-digits-at t) put-digits.Post
 put-digits-put-digits-requires t c κs = omega arith
 
 put-digits-digit-requires-2 : (t : ℕ) → put-digits-lts.Need-digit-requires-2 (calls t) (put-digits-at t) put-digits.Post
 put-digits-digit-requires-2 t c κs = omega arith
 
-put-digits-slice-write-text-2 : (t : ℕ) → put-digits-lts.Need-slice-write-text-2 (calls t) (put-digits-at t) put-digits.Post
+put-digits-slice-write-text-2 : (t : ℕ)
+    → put-digits-lts.Need-slice-write-text-2 (calls t) (put-digits-at t) put-digits.Post
 put-digits-slice-write-text-2 t c = omega (arith, c .before .before .before .put-digits .kept .0)
 
 put-digits-add-result-2 : (t : ℕ) → put-digits-lts.Need-add-result-2 (calls t) (put-digits-at t) put-digits.Post
@@ -72,7 +74,8 @@ put-digits-returns-3 : (t : ℕ) → put-digits-lts.Need-returns-3 (calls t) (pu
 put-digits-returns-3 t c =
     let front = c .before .before .before in (
       put-is _ _ _ _ _
-          (put-then _ _ _ _ _ (front .put-digits .ensures .0) _ _ _ (put-one _ _ _ (omega (arith, front .put-digits .kept .0)))) _
+          (put-then _ _ _ _ _ (front .put-digits .ensures .0) _ _ _
+          (put-one _ _ _ (omega (arith, front .put-digits .kept .0)))) _
           (digits-more _ _ _ (omega arith) (omega arith) (c .digit2 .ensures)),
       omega arith,
     )

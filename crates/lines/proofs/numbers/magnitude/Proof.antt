@@ -27,7 +27,8 @@ below c = ap (λ (z : ℤ). negsuc 0 -ℤ z) (read (c .before)) ∙ negative (c 
 sub-result : tie.Need-sub-result
 sub-result c = rw (below c) (record { sfits = c .before .fits .z .sfits })
 
-back : (c : tie.Then1) → toZ w32 (ofZ w32 (negsuc 0 -ℤ toZ w32 (ofZ w32 (c .before .args .z)))) ≡ pos (mag (c .before .args .z))
+back : (c : tie.Then1)
+    → toZ w32 (ofZ w32 (negsuc 0 -ℤ toZ w32 (ofZ w32 (c .before .args .z)))) ≡ pos (mag (c .before .args .z))
 back c = toZ-ofZ (sub-result c) ∙ below c
 
 small : (c : tie.Start) → mag (c .args .z) < 0x8000_0000
@@ -35,10 +36,12 @@ small c = c .fits .z .sfits
 
 cast-result : tie.Need-cast-result
 cast-result c =
-    subst (λ (v : ℤ). T (nonNeg v) × Fits w64 (natAbs v)) (sym (back c)) (tt, record { fits = omega (arith, small (c .before)) })
+    subst (λ (v : ℤ). T (nonNeg v) × Fits w64 (natAbs v)) (sym (back c))
+    (tt, record { fits = omega (arith, small (c .before)) })
 
 add-result : tie.Need-add-result
-add-result c = subst (λ (v : ℤ). Fits w64 (natAbs v + 1)) (sym (back c)) (record { fits = omega (arith, small (c .before)) })
+add-result c = subst (λ (v : ℤ). Fits w64 (natAbs v + 1)) (sym (back c))
+    (record { fits = omega (arith, small (c .before)) })
 
 over : (c : tie.Else1) → ltZ (c .before .args .z) (pos 0) ≡ false
 over c = rw (read (c .before)) at (c .if1 .left)

@@ -32,7 +32,8 @@ returns c =
     let sign = number .before .before .before .before .before in
     let minus = sign .before .before .before in (
       put-is _ _ _ _ _ (put-then _ _ _ _ _ (sign .put-word .ensures) _ _ _ (number .put-number .ensures .0)) _
-          (signed-minus _ _ _ (toZ-ofZ (minus .before .before .fits .z)) (number .before .magnitude .ensures) (minus .if1 .taken)),
+          (signed-minus _ _ _ (toZ-ofZ (minus .before .before .fits .z)) (number .before .magnitude .ensures)
+          (minus .if1 .taken)),
       omega (arith, sign .put-word .ensures .ended, number .put-number .ensures .1),
     )
 
@@ -50,7 +51,8 @@ returns-2 c =
     let number = c .before .before in
     let plain = number .before .before .before in (
       put-is _ _ _ _ _ (number .put-number2 .ensures .0) _
-          (signed-plain _ _ _ (toZ-ofZ (plain .before .before .fits .z)) (number .before .magnitude2 .ensures) (plain .if1 .left)),
+          (signed-plain _ _ _ (toZ-ofZ (plain .before .before .fits .z)) (number .before .magnitude2 .ensures)
+          (plain .if1 .left)),
       omega (arith, number .put-number2 .ensures .1),
     )
 

@@ -1,4 +1,5 @@
--- `lines::numbers::put_word` meets its contract. The invariant: the first i bytes stand there. The measure is how many are left.
+-- `lines::numbers::put_word` meets its contract. The invariant: the first i bytes stand there. The measure is how many
+-- are left.
 use Prim.Native.Nat.{_-_, _≤_}
 use mathlib.Core.Path.{_≡_, refl}
 use native.Mathlib.Omega.{arith}

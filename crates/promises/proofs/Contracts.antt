@@ -1,0 +1,74 @@
+-- What the contracts of the public functions say, from their own text.
+--     contracts         the answer, and what is left, are those of the call
+--     decided           two outcomes that a contract allows are equal
+--     in-hand           demand 3 of what a caller has in hand
+--     told-never        what `tell` leaves never holds `same no`
+use Prim.Native.Nat.{ℕ}
+use mathlib.Core.Path.{_≡_, refl, sym, _∙_, subst}
+use mathlib.Core.List.{List, [], _∷_}
+use lib.ListN.{take}
+use Rattle.meaning.specs.Calls.{Answer, gives}
+use Rattle.agreement.specs.Passing.{Held}
+use Rattle.agreement.proofs.EnginesAgree.{agree-in-hand}
+use Rattle.catalogue.specs.Answers as Catalogue
+use Rattle.catalogue.proofs.Decided as CatalogueDecided
+use Rattle.queries.specs.Decoded as Queries
+use Rattle.queries.proofs.Decided as QueryDecided
+use Rattle.translator.specs.Answers as Translator
+use Rattle.translator.specs.declared.Translated.the-variants.{Plan}
+use Rattle.translator.proofs.Decided as TranslatorDecided
+use Rattle.runner.specs.Answers as Runner
+use Rattle.runner.proofs.Decided as RunnerDecided
+use Rattle.evaluator.specs.Answers as Evaluator
+use Rattle.evaluator.proofs.Decided as EvaluatorDecided
+use Rattle.lines.specs.Text.{sameNo, Nowhere}
+use Rattle.lines.specs.Printed.{printed}
+use Rattle.promises.specs.Contracts.{TellAllows}
+use Rattle.promises.specs.Promises.{Contracts, Decides, Demand3InHand}
+
+pub contracts : Contracts
+contracts =
+    record {
+      catalogue = λ doc a h. let e = h .contract in cc;
+      query = λ query a h. let e = h .contract in cc;
+      translate = λ query bytes a bytes′ h. let (x, y) = h .contract in record { answers = cc; leaves = cc };
+      run = λ plan doc work a work′ h. let (x, y) = h .contract in record { answers = cc; leaves = cc };
+      evaluate = λ query doc work a work′ h. let (x, y) = h .contract in record { answers = cc; leaves = cc };
+    }
+
+pub decided : Decides
+decided =
+    record {
+      catalogue = λ doc a b h k.
+          CatalogueDecided.same-answer a b (contracts .catalogue doc a h ∙ sym (contracts .catalogue doc b k));
+      query = λ query a b h k.
+          QueryDecided.same-answer a b (contracts .query query a h ∙ sym (contracts .query query b k));
+      translate = λ query bytes a b xs ys h k.
+          let x = contracts .translate query bytes a xs h in
+          let y = contracts .translate query bytes b ys k in
+          (TranslatorDecided.same-answer a b (x .answers ∙ sym (y .answers)), x .leaves ∙ sym (y .leaves));
+      run = λ plan doc work a b xs ys h k.
+          let x = contracts .run plan doc work a xs h in
+          let y = contracts .run plan doc work b ys k in
+          (RunnerDecided.same-answer a b (x .answers ∙ sym (y .answers)), x .leaves ∙ sym (y .leaves));
+      evaluate = λ query doc work a b xs ys h k.
+          let x = contracts .evaluate query doc work a xs h in
+          let y = contracts .evaluate query doc work b ys k in
+          (EvaluatorDecided.same-answer a b (x .answers ∙ sym (y .answers)), x .leaves ∙ sym (y .leaves));
+    }
+
+pub in-hand : Demand3InHand
+unfolding Translator.answered Catalogue.answered
+in-hand query doc bytes bytes′ work work′ cells cells′ r e n m rows small ht hk hr not-run he not-evaluation =
+    agree-in-hand query doc bytes′ work′ cells′ (Translator.answered (Plan n m)) (gives (rows ∷ [])) (Runner.answered r)
+    (Evaluator.answered e) _ _ _ n m rows small (contracts .translate query bytes (Plan n m) bytes′ ht) refl
+    (contracts .catalogue doc _ hk) refl (contracts .run (take m bytes′) doc work r work′ hr) not-run
+    (contracts .evaluate query doc cells e cells′ he) not-evaluation
+
+pub told-never : (query doc text : List ℕ) (n : ℕ) (text′ : List ℕ) → TellAllows query doc text n text′
+    → (take n text′ ≡ printed doc query) × Nowhere sameNo (take n text′)
+told-never query doc text n text′ h =
+    let e = h .contract .prints in (
+      cc,
+      subst (λ (xs : List ℕ). Nowhere sameNo (take n xs)) (h .left) (h .contract .never-no),
+    )

@@ -1,0 +1,5 @@
+pub mod Numbers
+pub mod Refusals
+pub mod ShutOut
+pub mod Contracts
+pub mod Promises

@@ -1,0 +1,267 @@
+-- What the calls promise, on one page: statements only; proofs/Promises.antt cites a proof of each. The calls are those
+-- of crates/meaning/specs/Calls.antt. What passes its checks, and what an answer says, is worded in
+-- crates/agreement/specs/Passing.antt; how a contract is cited, in specs/Contracts.antt. That a call ends is no
+-- statement here: Rattle proves it of every function.
+--     Refuses a from          answer a is a refusal with number n at p exactly where `from n p`
+--     OfCatalogue, OfQuery    where the refusals of each call come from: 4; 1 2 3
+--     OfTranslation           .. 1 2 3 of the query, 2 at 0 over 512 operators, then 8 at 0
+--     OfRun, OfEvaluation     .. 5, 4, 6 and 7; 1 2 3, 4, 6 and 7
+--     Demand1                 each call refuses by these, and by no other; a refusal leaves zeros
+--     Demand2                 an answer is what the definitions say: the plan, the tables, the items; 7 where they fail
+--     Demand3                 both engines on one query, in any room, if neither answers 6
+--     RoomSentence            6 exactly where the count passes the room, and the counts that are answered
+--     Contracts               what each public function's own `ensures` tells its caller: the outcome of its call
+--     Decides                 two outcomes that such a contract allows are equal
+--     Demand3InHand           demand 3 of the answers and cells that a caller of translate, run and evaluate has in
+--                             hand
+--     NeverNo                 the bytes `same no` stand nowhere in what `chartask` prints
+--     Cells cs                every member is a 64-bit cell
+--     Engine, Keeps call f    an engine; it keeps the contract of a call
+--     Evaluations, Runs       what it always answers and leaves, on input that passes its checks
+--     firstAlone              a run of the first operator alone
+--     ShutOut                 the engines that document 01 shuts out
+use Prim.Native.Nat.{ℕ, _-_, _*_, _≤_, _<_}
+use mathlib.Core.Path.{_≡_}
+use mathlib.Core.List.{List, [], _∷_}
+use lib.IntN.{ℤ, pos}
+use lib.ListN.{length, take, getD}
+use mir.Syntax.{w64}
+use mir.Val.{SFits}
+use Rattle.cells.specs.Bytes.{Bytes}
+use Rattle.laws.specs.Rows.{padded}
+use Rattle.laws.specs.Attempt.{fails, refuses, reads, reading, full, failed}
+use Rattle.laws.specs.Attempt as Attempt
+use Rattle.meaning.specs.Catalogue.{catalogueRead}
+use Rattle.meaning.specs.World.{worldOf}
+use Rattle.meaning.specs.Query.{Read, queryRead}
+use Rattle.meaning.specs.Plan.{Placed, planRead}
+use Rattle.meaning.specs.Operators.{Table}
+use Rattle.meaning.specs.Run.{running}
+use Rattle.meaning.specs.Translation.{plan}
+use Rattle.meaning.specs.Written.{written}
+use Rattle.meaning.specs.Calls.{Answer, gives, refused, Outcome, room, lastTable, runOutcome}
+use Rattle.meaning.specs.Calls.{catalogueCall, queryCall, translateCall, runCall, evaluateCall}
+use Rattle.catalogue.specs.declared.Checked.{Checked as Catalogued}
+use Rattle.catalogue.specs.declared.Checked.the-variants.{Rows}
+use Rattle.catalogue.specs.Answers as Catalogue
+use Rattle.queries.specs.declared.Checked.{Checked}
+use Rattle.queries.specs.Decoded as Queries
+use Rattle.translator.specs.declared.Translated.{Translated}
+use Rattle.translator.specs.declared.Translated.the-variants.{Plan}
+use Rattle.translator.specs.Answers as Translator
+use Rattle.runner.specs.declared.Ran.{Ran}
+use Rattle.runner.specs.Answers as Runner
+use Rattle.evaluator.specs.declared.Evaluated.{Evaluated}
+use Rattle.evaluator.specs.Answers as Evaluator
+use Rattle.lines.specs.Text.{sameNo, Nowhere}
+use Rattle.lines.specs.Printed.{printed}
+use Rattle.promises.specs.Contracts.{CatalogueAllows, QueryAllows, TranslateAllows, RunAllows, EvaluateAllows}
+use Rattle.promises.specs.Contracts.{TellAllows}
+use Rattle.agreement.specs.Passing.{Passed, means, stands, evaluation, PlanPassed, makes, fills, theRun, Refused}
+use Rattle.agreement.specs.Passing.{Cleared, Stood, Alike, Held, SixBelow}
+
+-- DEMAND 1. Whatever the bytes and whatever is lent: which refusals there are and where each comes from. A refusal
+-- zeroes what was lent for writing; a slice keeps its length
+
+pub record Refuses (answer : Answer) (from : ℕ → ℕ → Type 0) : Type 0 where
+  pub comes-from : (n p : ℕ) → answer ≡ refused n p → from n p
+  pub leads-to : (n p : ℕ) → from n p → answer ≡ refused n p
+
+abbrev pub OfCatalogue : List ℕ → ℕ → ℕ → Type 0
+OfCatalogue doc n p = (n ≡ 4) × (catalogueRead doc ≡ refuses n p)
+
+abbrev pub OfQuery : List ℕ → ℕ → ℕ → Type 0
+OfQuery query n p = (1 ≤ n) × (n ≤ 3) × (queryRead query ≡ refuses n p)
+
+pub data OfTranslation (query : List ℕ) (lent n p : ℕ) : Type 0 where
+  ofQuery : OfQuery query n p → OfTranslation query lent n p
+  tooMany : (r : Read) → queryRead query ≡ reads r → 512 < length (plan (r .tree)) → n ≡ 2 → p ≡ 0
+      → OfTranslation query lent n p
+  longer : (r : Read) → queryRead query ≡ reads r → length (plan (r .tree)) ≤ 512
+      → lent < length (written (plan (r .tree))) → n ≡ 8 → p ≡ 0 → OfTranslation query lent n p
+
+pub data OfRun (bytes doc : List ℕ) (lent n p : ℕ) : Type 0 where
+  ofPlan : n ≡ 5 → planRead bytes ≡ refuses n p → OfRun bytes doc lent n p
+  ofCatalogue : (ps : List Placed) → planRead bytes ≡ reads ps → OfCatalogue doc n p → OfRun bytes doc lent n p
+  noRoom : (i : PlanPassed bytes doc) → theRun i lent ≡ full p → n ≡ 6 → OfRun bytes doc lent n p
+  failing : (i : PlanPassed bytes doc) → theRun i lent ≡ failed p → n ≡ 7 → OfRun bytes doc lent n p
+
+pub data OfEvaluation (query doc : List ℕ) (lent n p : ℕ) : Type 0 where
+  ofQuery : OfQuery query n p → OfEvaluation query doc lent n p
+  ofCatalogue : (r : Read) → queryRead query ≡ reads r → OfCatalogue doc n p → OfEvaluation query doc lent n p
+  noRoom : (i : Passed query doc) → evaluation i lent ≡ full p → n ≡ 6 → OfEvaluation query doc lent n p
+  failing : (i : Passed query doc) → evaluation i lent ≡ failed p → n ≡ 7 → OfEvaluation query doc lent n p
+
+pub record Demand1 : Type 0 where
+  pub catalogue-refuses : (doc : List ℕ) → Refuses (catalogueCall doc) (OfCatalogue doc)
+  pub query-refuses : (query : List ℕ) → Refuses (queryCall query) (OfQuery query)
+  pub translate-refuses : (query : List ℕ) (lent : ℕ)
+      → Refuses (translateCall query lent .answer) (OfTranslation query lent)
+  pub run-refuses : (bytes doc : List ℕ) (lent : ℕ) → Refuses (runCall bytes doc lent .answer) (OfRun bytes doc lent)
+  pub evaluate-refuses : (query doc : List ℕ) (lent : ℕ)
+      → Refuses (evaluateCall query doc lent .answer) (OfEvaluation query doc lent)
+  pub translate-clears : (query : List ℕ) → Cleared 0 (translateCall query)
+  pub run-clears : (bytes doc : List ℕ) → Cleared (pos 0) (runCall bytes doc)
+  pub evaluate-clears : (query doc : List ℕ) → Cleared (pos 0) (evaluateCall query doc)
+
+-- DEMAND 2. What an answer says is what the definitions say, and what they say is answered: the plan where there are at
+-- most 512 operators and enough bytes are lent, tables and items where there is enough room (else 6: the sentence on
+-- room)
+
+pub record Demand2 : Type 0 where
+  pub translate-gives : (query : List ℕ) (r : Read) → queryRead query ≡ reads r → (lent : ℕ)
+      → length (plan (r .tree)) ≤ 512 → length (written (plan (r .tree))) ≤ lent
+      → translateCall query lent .answer ≡ gives (length (plan (r .tree)) ∷ length (written (plan (r .tree))) ∷ [])
+  pub translate-gave : (query : List ℕ) (r : Read) → queryRead query ≡ reads r → (lent n m : ℕ)
+      → translateCall query lent .answer ≡ gives (n ∷ m ∷ [])
+      → (n ≡ length (plan (r .tree))) × (m ≡ length (written (plan (r .tree))))
+      × (translateCall query lent .left ≡ padded 0 lent (written (plan (r .tree))))
+  pub run-gives : (bytes doc : List ℕ) (i : PlanPassed bytes doc) (lent : ℕ) → fills i ≤ room lent
+      → (ts : List Table) → makes i ≡ Attempt.gives ts
+      → runCall bytes doc lent .answer
+      ≡ gives ((fills i - length (lastTable ts) * 3) ∷ length (lastTable ts) ∷ fills i ∷ [])
+  pub run-gave : (bytes doc : List ℕ) (i : PlanPassed bytes doc) (lent start rows filled : ℕ)
+      → runCall bytes doc lent .answer ≡ gives (start ∷ rows ∷ filled ∷ [])
+      → (ts : List Table) × (makes i ≡ Attempt.gives ts)
+      × Stood ts lent (runCall bytes doc lent .left) start rows filled
+  pub run-fails : (bytes doc : List ℕ) (i : PlanPassed bytes doc) (lent : ℕ) → fills i ≤ room lent
+      → makes i ≡ fails → Refused 7 (runCall bytes doc lent .answer)
+  pub run-failed : (bytes doc : List ℕ) (i : PlanPassed bytes doc) (lent : ℕ)
+      → Refused 7 (runCall bytes doc lent .answer) → makes i ≡ fails
+  pub evaluate-gives : (query doc : List ℕ) (i : Passed query doc) (lent : ℕ) → stands i ≤ room lent
+      → (items : List ℤ) → means i ≡ Attempt.gives items
+      → evaluateCall query doc lent .answer ≡ gives (length items ∷ stands i ∷ [])
+  pub evaluate-gave : (query doc : List ℕ) (i : Passed query doc) (lent n count : ℕ)
+      → evaluateCall query doc lent .answer ≡ gives (n ∷ count ∷ [])
+      → (items : List ℤ) × (means i ≡ Attempt.gives items) × (n ≡ length items)
+      × (evaluateCall query doc lent .left ≡ padded (pos 0) lent items)
+  pub evaluate-fails : (query doc : List ℕ) (i : Passed query doc) (lent : ℕ) → stands i ≤ room lent
+      → means i ≡ fails → Refused 7 (evaluateCall query doc lent .answer)
+  pub evaluate-failed : (query doc : List ℕ) (i : Passed query doc) (lent : ℕ)
+      → Refused 7 (evaluateCall query doc lent .answer) → means i ≡ fails
+
+-- DEMAND 3. For every query bytes and catalogue bytes that pass their checks, with a plan of at most 512 operators that
+-- the lent bytes hold, and any room lent to each engine: if neither the run of the written plan nor the evaluation
+-- answers 6, then both answer 7, or both give the same items in the same order: those that the query means
+
+abbrev pub Demand3 : Type 0
+Demand3 =
+    (query doc : List ℕ) → Bytes query → (i : Passed query doc) (lent forRun forEvaluation n m : ℕ)
+    → translateCall query lent .answer ≡ gives (n ∷ m ∷ [])
+    → ¬ (Refused 6 (runCall (take m (translateCall query lent .left)) doc forRun .answer))
+    → ¬ (Refused 6 (evaluateCall query doc forEvaluation .answer))
+    → Alike (means i) (runCall (take m (translateCall query lent .left)) doc forRun)
+    (evaluateCall query doc forEvaluation)
+
+-- ROOM. Each engine answers 6 exactly when its count passes the smaller of the lent cells and 65,536 before anything
+-- has failed; with more room its answer is one and the same; and the count that it answers is that count
+
+pub record RoomSentence : Type 0 where
+  pub runner : (bytes doc : List ℕ) (i : PlanPassed bytes doc) → SixBelow (fills i) (runCall bytes doc)
+  pub filled-is : (bytes doc : List ℕ) (i : PlanPassed bytes doc) (lent start rows filled : ℕ)
+      → runCall bytes doc lent .answer ≡ gives (start ∷ rows ∷ filled ∷ []) → filled ≡ fills i
+  pub evaluator : (query doc : List ℕ) (i : Passed query doc) → SixBelow (stands i) (evaluateCall query doc)
+  pub count-is : (query doc : List ℕ) (i : Passed query doc) (lent items count : ℕ)
+      → evaluateCall query doc lent .answer ≡ gives (items ∷ count ∷ []) → count ≡ stands i
+
+-- CONTRACTS. What each public function's own `ensures` tells its caller: the answer, and all that was lent for
+-- writing, are those of its call
+
+pub record Contracts : Type 0 where
+  pub catalogue : (doc : List ℕ) (a : Catalogued) → CatalogueAllows doc a → Catalogue.answered a ≡ catalogueCall doc
+  pub query : (query : List ℕ) (a : Checked) → QueryAllows query a → Queries.answered a ≡ queryCall query
+  pub translate : (query bytes : List ℕ) (a : Translated) (bytes′ : List ℕ) → TranslateAllows query bytes a bytes′
+      → Held (translateCall query (length bytes)) (Translator.answered a) bytes′
+  pub run : (plan doc : List ℕ) (work : List ℤ) (a : Ran) (work′ : List ℤ) → RunAllows plan doc work a work′
+      → Held (runCall plan doc (length work)) (Runner.answered a) work′
+  pub evaluate : (query doc : List ℕ) (work : List ℤ) (a : Evaluated) (work′ : List ℤ)
+      → EvaluateAllows query doc work a work′
+      → Held (evaluateCall query doc (length work)) (Evaluator.answered a) work′
+
+-- DECIDED. They leave no choice: neither in the answer nor in any byte or cell that was lent
+
+pub record Decides : Type 0 where
+  pub catalogue : (doc : List ℕ) (a b : Catalogued) → CatalogueAllows doc a → CatalogueAllows doc b → a ≡ b
+  pub query : (query : List ℕ) (a b : Checked) → QueryAllows query a → QueryAllows query b → a ≡ b
+  pub translate : (query bytes : List ℕ) (a b : Translated) (xs ys : List ℕ) → TranslateAllows query bytes a xs
+      → TranslateAllows query bytes b ys → (a ≡ b) × (xs ≡ ys)
+  pub run : (plan doc : List ℕ) (work : List ℤ) (a b : Ran) (xs ys : List ℤ) → RunAllows plan doc work a xs
+      → RunAllows plan doc work b ys → (a ≡ b) × (xs ≡ ys)
+  pub evaluate : (query doc : List ℕ) (work : List ℤ) (a b : Evaluated) (xs ys : List ℤ)
+      → EvaluateAllows query doc work a xs → EvaluateAllows query doc work b ys → (a ≡ b) × (xs ≡ ys)
+
+-- DEMAND 3 in hand, for whoever calls translate, then run with the plan's bytes and evaluate with the query, each with
+-- the same catalogue, and reads their contracts; what is primed is what a lent slice holds afterwards
+
+abbrev pub Demand3InHand : Type 0
+Demand3InHand =
+    (query doc bytes bytes′ : List ℕ) (work work′ cells cells′ : List ℤ) (r : Ran) (e : Evaluated) (n m : ℕ)
+    (sound : ℕ) → Bytes query
+    → TranslateAllows query bytes (Plan n m) bytes′ → CatalogueAllows doc (Rows sound)
+    → RunAllows (take m bytes′) doc work r work′ → ¬ (Refused 6 (Runner.answered r))
+    → EvaluateAllows query doc cells e cells′ → ¬ (Refused 6 (Evaluator.answered e))
+    → (i : Passed query doc)
+    × Alike (means i) (record { answer = Runner.answered r; left = work′ })
+    (record { answer = Evaluator.answered e; left = cells′ })
+
+-- NEVER `same no`. The bytes of these two words stand nowhere in what `chartask` prints, whatever its two files hold:
+-- in the text of the definitions, and in what `tell`, which writes it, leaves in the slice that `chartask` writes out
+
+pub record NeverNo : Type 0 where
+  pub printed-text : (doc query : List ℕ) → Bytes query → Nowhere sameNo (printed doc query)
+  pub told-text : (query doc text : List ℕ) (n : ℕ) (text′ : List ℕ) → TellAllows query doc text n text′
+      → (take n text′ ≡ printed doc query) × Nowhere sameNo (take n text′)
+
+-- SHUT OUT. Engines that document 01 names, on input that passes its checks: none keeps the contract of its call. A
+-- contract of Rattle speaks of bytes and of 64-bit cells, and of no other lists
+
+abbrev pub Cells : List ℤ → Type 0
+Cells cs = (i : ℕ) → SFits w64 (getD cs i (pos 0))
+
+-- an engine's answer, and what it leaves of cells that it is lent as they stand
+abbrev pub Engine : Type 0
+Engine = List ℕ → List ℕ → List ℤ → Outcome ℤ
+
+abbrev pub Keeps : (List ℕ → List ℕ → ℕ → Outcome ℤ) → Engine → Type 0
+Keeps call f =
+    (bytes doc : List ℕ) (cells : List ℤ) → Bytes bytes → Bytes doc → Cells cells
+    → Held (call bytes doc (length cells)) (f bytes doc cells .answer) (f bytes doc cells .left)
+
+-- what every evaluation, or every run, answers and leaves
+abbrev pub Evaluations : Engine → (List ℤ → Outcome ℤ → Type 0) → Type 0
+Evaluations f P =
+    (query doc : List ℕ) → Passed query doc → (cells : List ℤ) → Bytes query → Bytes doc → Cells cells
+    → P cells (f query doc cells)
+
+abbrev pub Runs : Engine → (List ℤ → Outcome ℤ → Type 0) → Type 0
+Runs f P =
+    (bytes doc : List ℕ) → PlanPassed bytes doc → (cells : List ℤ) → Bytes bytes → Bytes doc → Cells cells
+    → P cells (f bytes doc cells)
+
+-- the first operator alone
+unfoldable pub firstAlone : List ℕ → List ℕ → ℕ → Outcome ℤ
+firstAlone bytes doc lent =
+    runOutcome lent
+    (reading (planRead bytes)
+    (λ ps. reading (catalogueRead doc) (λ c. reads (running (worldOf c) (room lent) (take 1 ps) [] 0))))
+
+pub record ShutOut (f : Engine) : Type 0 where
+  pub always-7 : Evaluations f (λ cells o. Refused 7 (o .answer)) → ¬ (Keeps evaluateCall f)
+  pub runs-7 : Runs f (λ cells o. Refused 7 (o .answer)) → ¬ (Keeps runCall f)
+  pub always-empty : Evaluations f (λ cells o. (count : ℕ) × (o .answer ≡ gives (0 ∷ count ∷ [])))
+      → ¬ (Keeps evaluateCall f)
+  pub runs-empty : Runs f (λ cells o. (start filled : ℕ) × (o .answer ≡ gives (start ∷ 0 ∷ filled ∷ [])))
+      → ¬ (Keeps runCall f)
+  pub writes-nothing : Evaluations f (λ cells o. o .left ≡ cells) → ¬ (Keeps evaluateCall f)
+  pub runs-write-nothing : Runs f (λ cells o. o .left ≡ cells) → ¬ (Keeps runCall f)
+  pub first-alone :
+      ((bytes doc : List ℕ) (cells : List ℤ) → Bytes bytes → Bytes doc → Cells cells
+      → f bytes doc cells ≡ firstAlone bytes doc (length cells))
+      → ¬ (Keeps runCall f)
+  -- a count other than the definitions', on one input that passes its checks
+  pub invented-count : (query doc : List ℕ) (i : Passed query doc) (cells : List ℤ) → Bytes query → Bytes doc
+      → Cells cells → (items count : ℕ) → f query doc cells .answer ≡ gives (items ∷ count ∷ [])
+      → ¬ (count ≡ stands i) → ¬ (Keeps evaluateCall f)
+  pub invented-cells : (bytes doc : List ℕ) (i : PlanPassed bytes doc) (cells : List ℤ) → Bytes bytes → Bytes doc
+      → Cells cells → (start rows filled : ℕ) → f bytes doc cells .answer ≡ gives (start ∷ rows ∷ filled ∷ [])
+      → ¬ (filled ≡ fills i) → ¬ (Keeps runCall f)
