@@ -2,8 +2,8 @@
 use cells::Axis;
 use cells::Test;
 use items::Judged;
-use queries::Reading;
-use queries::Record;
+use query_records::Reading;
+use query_records::Record;
 use stack::Pair;
 use stack::Stood;
 ghost use mathlib.Core.Path.{_≡_};
@@ -15,7 +15,7 @@ ghost use Rattle.meaning.specs.World.{worldOf};
 ghost use Rattle.meaning.specs.Counted.{adding};
 ghost use Rattle.meaning.specs.Query;
 ghost use Rattle.meaning.specs.Calls.{evaluateCall};
-ghost use Rattle.queries.specs.Parse.{parse, trees};
+ghost use Rattle.query_walks.specs.Parse.{parse, trees};
 ghost use Rattle.steps.specs.Marks.{Known};
 ghost use Rattle.stack.specs.Stack.{stood, Fit, Ends, At, Leaves, Lent};
 ghost use Rattle.stack.specs.Arms.{stepped};
@@ -282,7 +282,7 @@ fn each_item(
     else {
         return a;
     };
-    let end = queries::skip(query, next, depth);
+    let end = query_walks::skip(query, next, depth);
     let results = turns(
         query,
         doc,
@@ -360,8 +360,8 @@ fn choice(
     let Judged::Is(chosen) = truth else {
         return Stood::Failed(place);
     };
-    let past = queries::skip(query, next, depth);
-    let last = queries::skip(query, past, depth);
+    let past = query_walks::skip(query, next, depth);
+    let last = query_walks::skip(query, past, depth);
     let a = branch(
         chosen,
         query,
@@ -409,7 +409,7 @@ fn work_out(
     if depth == 0 {
         return Stood::Failed(at);
     }
-    let reading = queries::read(query, at);
+    let reading = query_records::read(query, at);
     let Reading::Sound(found) = reading else {
         return Stood::Failed(at);
     };

@@ -23,7 +23,7 @@ use Rattle.meaning.specs.Plan as Plan
 use Rattle.meaning.specs.Plan.{Op, RP, RN, sized, field, table, plainIn, attachAt, projectAt, numberAt, functionAt, stepAt}
 use Rattle.meaning.specs.Plan.{columnsAt, operatorAt, markRT, markRA, markRP, markRU, markRD, markRS, markRJ, markRN}
 use Rattle.meaning.specs.Plan.{markRF, markRC, markRE, markRK, markRX, markRO}
-use Rattle.queries.proofs.Arms.{NoneOf, fits-cut}
+use Rattle.query_records.proofs.Arms.{NoneOf, fits-cut}
 use Rattle.plans.specs.declared.Operator.{Operator}
 use Rattle.plans.specs.declared.Operator.the-variants as Operator
 use Rattle.plans.specs.declared.Reading.{Reading}

@@ -11,7 +11,7 @@ use lib.ListN.{length}
 use Rattle.cells.specs.Bytes.{fits}
 use Rattle.laws.specs.Attempt.{Attempt, fails, gives, attempt, provided}
 use Rattle.meaning.specs.Plan.{Op, sized}
-use Rattle.queries.proofs.Arms.{fits-cut, fits-there, fits-room}
+use Rattle.query_records.proofs.Arms.{fits-cut, fits-there, fits-room}
 use Rattle.plans.specs.declared.Operator.{Operator}
 use Rattle.plans.specs.declared.Reading.{Reading}
 use Rattle.plans.specs.declared.Reading.the-variants.{Sound, Unsound}

@@ -16,9 +16,9 @@ use lib.ListN.{length, getD, set}
 use Rattle.laws.specs.Attempt.{Reading, refuses, reads, reading, unless}
 use Rattle.meaning.specs.Calls.{Answer, refused}
 use Rattle.meaning.specs.Query.{Read, recordAt, bound}
-use Rattle.queries.specs.declared.Operands.{Operands}
-use Rattle.queries.specs.declared.Operands.the-variants.{None, Variable, One, Two, Binding, Three}
-use Rattle.queries.specs.Decoded.{operandsOf}
+use Rattle.query_records.specs.declared.Operands.{Operands}
+use Rattle.query_records.specs.declared.Operands.the-variants.{None, Variable, One, Two, Binding, Three}
+use Rattle.query_records.specs.Decoded.{operandsOf}
 
 -- an offset, and the records so far
 abbrev pub Passing : Type 0

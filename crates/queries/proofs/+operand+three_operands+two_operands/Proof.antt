@@ -5,9 +5,9 @@ use borrow.Author.Needs.{needs}
 use Prim.Native.Nat.{ℕ, _+_, _*_, _-_, _<_}
 use borrow.Fn.Kinds.{In}
 use borrow.Fn.PlainCycle.{Measures, is, falls, and}
-use Rattle.queries.specs.declared.Operands.{Operands}
-use Rattle.queries.specs.declared.Operands.the-variants.{None, Variable, One, Two, Binding, Three}
-use Rattle.queries.specs.Decoded.{walked}
+use Rattle.query_records.specs.declared.Operands.{Operands}
+use Rattle.query_records.specs.declared.Operands.the-variants.{None, Variable, One, Two, Binding, Three}
+use Rattle.queries.specs.Answers.{walked}
 use Rattle.queries.specs.Walk.{walk, steps, two, three}
 use Rattle.queries.proofs.Walking.{walk-unsound, walk-deep, walk-many, walk-sound, walk-stopped, walk-passed}
 use Rattle.queries.proofs.operand.Reads as operand
@@ -19,10 +19,10 @@ use Rattle.queries.proofs.+operand+three_operands+two_operands.Lts-thre
 use Rattle.queries.proofs.two_operands.Reads as two-operands
 use Rattle.queries.proofs.two_operands.Kinds as two-operands-kinds
 use Rattle.queries.proofs.+operand+three_operands+two_operands.Lts-two_operands as two-operands-lts
-use Rattle.queries.proofs.following.Reads as following-reads
+use Rattle.query_records.proofs.following.Reads as following-reads
 use Rattle.queries.proofs.lookup.Reads as lookup-reads
-use Rattle.queries.proofs.read.Reads as read-reads
-use Rattle.queries.proofs.with.Reads as with-reads
+use Rattle.query_records.proofs.read.Reads as read-reads
+use Rattle.query_records.proofs.flags.with.Reads as with-reads
 use Rattle.queries.proofs.+operand+three_operands+two_operands.{statement}
 use Rattle.queries.proofs.+operand+three_operands+two_operands.Tie.{close}
 

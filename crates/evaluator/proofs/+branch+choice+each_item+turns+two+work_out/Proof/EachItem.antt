@@ -11,7 +11,7 @@ use Rattle.evaluator.proofs.each_item.Reads as each-item
 use Rattle.evaluator.proofs.work_out.Reads as work-out
 use Rattle.evaluator.proofs.turns.Reads as turns
 use Rattle.evaluator.proofs.+branch+choice+each_item+turns+two+work_out.Lts-each_item as each-item-lts
-use Rattle.queries.proofs.skip.Reads as skip-reads
+use Rattle.query_walks.proofs.skip.Reads as skip-reads
 use Rattle.stack.proofs.keep.Reads as keep-reads
 use Rattle.evaluator.proofs.+branch+choice+each_item+turns+two+work_out.Proof.Measures.{each-item-at, work-out-below, turns-below}
 

@@ -1,7 +1,7 @@
 -- `axis_of` meets its contract: each number by the definition's own table, the refused range by `axis-none`.
 use mathlib.Core.Path.{sym}
 use Rattle.meaning.specs.Query.{axisOf}
-use Rattle.queries.proofs.Arms.{axis-none}
+use Rattle.query_records.proofs.Arms.{axis-none}
 use Rattle.plans.proofs.records.axis_of.Statement.{statement}
 use Rattle.plans.proofs.records.axis_of.Tie as tie
 

@@ -1,7 +1,7 @@
 -- `function_of` meets its contract: each number by the definition's own table, the refused range by `function-none`.
 use mathlib.Core.Path.{sym}
 use Rattle.meaning.specs.Query.{functionOf}
-use Rattle.queries.proofs.Arms.{function-none}
+use Rattle.query_records.proofs.Arms.{function-none}
 use Rattle.plans.proofs.records.function_of.Statement.{statement}
 use Rattle.plans.proofs.records.function_of.Tie as tie
 

@@ -2,7 +2,7 @@
 use mathlib.Core.Path.{sym}
 use borrow.Author.Needs.{needs}
 use Rattle.meaning.specs.Query.{testOf}
-use Rattle.queries.proofs.Arms.{test-none}
+use Rattle.query_records.proofs.Arms.{test-none}
 use Rattle.plans.proofs.records.test_of.Statement.{statement}
 use Rattle.plans.proofs.records.test_of.Tie as tie
 

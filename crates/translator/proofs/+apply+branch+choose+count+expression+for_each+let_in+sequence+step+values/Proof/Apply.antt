@@ -6,7 +6,7 @@ use lib.Dec.{lit≤}
 use Rattle.meaning.specs.Query.{QO}
 use Rattle.meaning.specs.Translation.{tr, tailO}
 use Rattle.theorems.proofs.Closed.{records}
-use Rattle.queries.specs.Parse.{parse}
+use Rattle.query_walks.specs.Parse.{parse}
 use Rattle.translator.proofs.Rooms.{room-less, first-asked, second-asked, two-room}
 use Rattle.translator.proofs.Composing.{two-made}
 use borrow.Author.Needs.{needs}

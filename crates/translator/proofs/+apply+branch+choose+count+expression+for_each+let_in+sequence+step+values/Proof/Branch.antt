@@ -7,7 +7,7 @@ use borrow.Author.Needs.{needs}
 use Rattle.translator.proofs.branch.Reads as branch
 use Rattle.translator.proofs.expression.Reads as expression
 use Rattle.translator.proofs.+apply+branch+choose+count+expression+for_each+let_in+sequence+step+values.Lts-branch as branch-lts
-use Rattle.queries.proofs.free.Reads as free-reads
+use Rattle.query_walks.proofs.free.Reads as free-reads
 use Rattle.rules.proofs.lift.Reads as lift-reads
 use Rattle.translator.proofs.+apply+branch+choose+count+expression+for_each+let_in+sequence+step+values.Proof.Measures.{branch-at}
 use Rattle.translator.proofs.+apply+branch+choose+count+expression+for_each+let_in+sequence+step+values.Proof.Measures.{expression-below}

@@ -1,7 +1,7 @@
 -- `choose` meets its contract: the condition, its two loops, each branch, then the union.
 use Prim.Native.Nat.{ℕ}
 use native.Mathlib.Omega.{arith}
-use Rattle.queries.specs.Parse.{parse}
+use Rattle.query_walks.specs.Parse.{parse}
 use Rattle.translator.proofs.Rooms.{room-less, condition-asked, condition-room, then-asked, else-asked, choice-room}
 use Rattle.translator.proofs.Composing.{choice-made}
 use borrow.Author.Needs.{needs}

@@ -7,11 +7,11 @@ use lib.Dec.{lit≤}
 use Rattle.meaning.specs.Query.{QL, QE, QR, QV}
 use Rattle.meaning.specs.Translation.{tr}
 use Rattle.theorems.proofs.Closed.{records}
-use Rattle.queries.specs.declared.Record.{Record}
-use Rattle.queries.specs.Decoded as Code
-use Rattle.queries.specs.Decoded.{SmallLiteral}
-use Rattle.queries.specs.Parse.{trees, parse}
-use Rattle.queries.specs.Statements.{Ranged}
+use Rattle.query_records.specs.declared.Record.{Record}
+use Rattle.query_records.specs.Decoded as Code
+use Rattle.query_records.specs.Decoded.{SmallLiteral}
+use Rattle.query_walks.specs.Parse.{trees, parse}
+use Rattle.query_records.specs.Fields.{Ranged}
 use Rattle.translator.proofs.Rooms.{room-less}
 use Rattle.translator.proofs.Splitting.{leaf-room, leaf-makes, one-asked, one-makes, two-asked, two-makes}
 use Rattle.translator.proofs.Splitting.{three-asked, three-makes}
@@ -31,7 +31,7 @@ use Rattle.translator.proofs.+apply+branch+choose+count+expression+for_
 use Rattle.cells.proofs.cell_of.Reads as cell-of-reads
 use Rattle.rules.proofs.empty.Reads as empty-reads
 use Rattle.rules.proofs.literal.Reads as literal-reads
-use Rattle.queries.proofs.read.Reads as read-reads
+use Rattle.query_records.proofs.read.Reads as read-reads
 use Rattle.rules.proofs.root.Reads as root-reads
 use Rattle.translator.proofs.variable.Reads as variable-reads
 use Rattle.translator.proofs.+apply+branch+choose+count+expression+for_each+let_in+sequence+step+values.Proof.Measures.{expression-at}

@@ -4,7 +4,7 @@ use mathlib.Core.Path.{refl}
 use native.Mathlib.Omega.{arith}
 use Rattle.meaning.specs.Query.{QT}
 use Rattle.theorems.proofs.Closed.{records}
-use Rattle.queries.specs.Parse.{parse}
+use Rattle.query_walks.specs.Parse.{parse}
 use Rattle.translator.proofs.Rooms.{first-asked, second-asked}
 use Rattle.translator.proofs.Composing.{let-made}
 use borrow.Author.Needs.{needs}

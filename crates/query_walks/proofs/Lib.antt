@@ -1,0 +1,5 @@
+pub mod Accepting
+pub mod Parsing
+pub mod Callers
+pub mod Skipping
+pub mod FieldRanges
