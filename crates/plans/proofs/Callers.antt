@@ -27,20 +27,20 @@ use Rattle.laws.proofs.Outcomes.{reads-same, refuses-reads, gives-same}
 use Rattle.theorems.proofs.PlanFields.{Own, Width}
 use Rattle.theorems.proofs.PlanWidths.{Every, attempt-gives, provided-gives}
 use Rattle.laws.proofs.Booleans.{both-true}
-use Rattle.plans.specs.declared.Operator.{Operator}
-use Rattle.plans.specs.declared.Operator.the-variants as Operator
-use Rattle.plans.specs.declared.Decoded.{Decoded}
-use Rattle.plans.specs.declared.Reading.{Reading as Read}
-use Rattle.plans.specs.declared.Reading.the-variants as Read
+use Rattle.plan_records.specs.declared.Operator.{Operator}
+use Rattle.plan_records.specs.declared.Operator.the-variants as Operator
+use Rattle.plan_records.specs.declared.Decoded.{Decoded}
+use Rattle.plan_records.specs.declared.Reading.{Reading as Read}
+use Rattle.plan_records.specs.declared.Reading.the-variants as Read
 use Rattle.plans.specs.declared.Checked.{Checked}
 use Rattle.plans.specs.declared.Checked.the-variants.{Operators, Unsound}
 use Rattle.plans.specs.declared.widths.Operands.the-variants.{None, Of}
-use Rattle.plans.specs.Decoded.{operatorOf, Stands, Means}
+use Rattle.plan_records.specs.Decoded.{operatorOf, Stands, Means}
 use Rattle.plans.specs.Widths.{tablesOf, suitable, madeWidth}
 use Rattle.plans.specs.Walk.{checked, planCount, widthsOf, Walk}
 use Rattle.plans.specs.Accepted.{Suited, Fitting, Ahead, Turn, placed}
-use Rattle.plans.proofs.Columns.{columns-length}
-use Rattle.plans.proofs.Fields.{operator-ends}
+use Rattle.plan_records.proofs.Columns.{columns-length}
+use Rattle.plan_records.proofs.Fields.{operator-ends}
 use Rattle.plans.proofs.Ordered.{widthBy, width-by}
 use Rattle.plans.proofs.Walking.{from-one, walk-start, walk-end, walk-excess, walk-bad, walk-on, unplaced, misplaced}
 use Rattle.plans.proofs.Walking.{widths-more, widths-length}

@@ -18,18 +18,18 @@ use Rattle.laws.specs.Attempt.{Attempt, fails, gives, Reading, refuses, reads, 
 use Rattle.meaning.specs.Plan.{Op, Placed, operatorAt, widthOf, lastOf, ended, planRead}
 use Rattle.theorems.proofs.PlanFields.{Width}
 use Rattle.theorems.proofs.PlanWidths.{Every}
-use Rattle.plans.specs.declared.Operator.{Operator}
-use Rattle.plans.specs.declared.Decoded.{Decoded}
-use Rattle.plans.specs.declared.Reading.{Reading as Read}
-use Rattle.plans.specs.declared.Reading.the-variants as Read
+use Rattle.plan_records.specs.declared.Operator.{Operator}
+use Rattle.plan_records.specs.declared.Decoded.{Decoded}
+use Rattle.plan_records.specs.declared.Reading.{Reading as Read}
+use Rattle.plan_records.specs.declared.Reading.the-variants as Read
 use Rattle.plans.specs.declared.Checked.the-variants.{Operators, Unsound}
 use Rattle.plans.specs.declared.widths.Width.{Width as Found}
 use Rattle.plans.specs.declared.widths.Width.the-variants as Found
-use Rattle.plans.specs.Decoded.{operatorOf, readingOf, Stands, Standing, Means}
+use Rattle.plan_records.specs.Decoded.{operatorOf, readingOf, Stands, Standing, Means}
 use Rattle.plans.specs.Widths.{widthField}
 use Rattle.plans.specs.Walk.{checked, planCount, widthsOf, lastAt, Walk, Checking}
 use Rattle.cells.specs.Bytes.{Bytes}
-use Rattle.plans.proofs.Fields.{operator-ends}
+use Rattle.plan_records.proofs.Fields.{operator-ends}
 use Rattle.plans.proofs.Walking.{walk-start, walk-end, walk-excess, walk-bad, walk-on, last-at, last-width}
 use Rattle.plans.proofs.Walking.{widths-more, unplaced, misplaced}
 

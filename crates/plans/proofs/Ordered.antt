@@ -13,13 +13,13 @@ use lib.ListN.{length, take, getD, length-take}
 use lib.Seq.{getD-take}
 use Rattle.laws.specs.Attempt.{Attempt, fails, gives, attempt, provided}
 use Rattle.meaning.specs.Plan.{columns, columnsAt, tableWidth, upTo6, widthOf}
-use Rattle.plans.specs.declared.Operator.{Operator}
-use Rattle.plans.specs.declared.Operator.the-variants as Operator
+use Rattle.plan_records.specs.declared.Operator.{Operator}
+use Rattle.plan_records.specs.declared.Operator.the-variants as Operator
 use Rattle.plans.specs.declared.widths.Operands.{Operands}
 use Rattle.plans.specs.declared.widths.Operands.the-variants.{None, Of}
-use Rattle.plans.specs.Decoded.{operatorOf, Stands}
+use Rattle.plan_records.specs.Decoded.{operatorOf, Stands}
 use Rattle.plans.specs.Widths.{tablesOf, suitable, madeWidth}
-use Rattle.plans.proofs.Columns.{columns-length}
+use Rattle.plan_records.proofs.Columns.{columns-length}
 
 unfoldable pub widthBy : List ℕ → List ℕ → Operator → Operands → Attempt ℕ
 widthBy bs ws o None = gives 1

@@ -9,11 +9,11 @@ use lib.Dec.{eqb, ltb, leb}
 use lib.ListN.{length}
 use Rattle.cells.specs.declared.Function.{Function}
 use Rattle.meaning.specs.Plan.{columns, columnsAt}
-use Rattle.plans.specs.declared.Operator.{Operator}
-use Rattle.plans.specs.declared.Operator.the-variants as Operator
-use Rattle.plans.specs.Decoded.{operatorOf, Stands}
+use Rattle.plan_records.specs.declared.Operator.{Operator}
+use Rattle.plan_records.specs.declared.Operator.the-variants as Operator
+use Rattle.plan_records.specs.Decoded.{operatorOf, Stands}
 use Rattle.plans.specs.Widths.{suitable}
-use Rattle.plans.proofs.Columns.{columns-length}
+use Rattle.plan_records.proofs.Columns.{columns-length}
 
 module _ (bs : List ℕ) (o : Operator) (s : Stands bs o) where
   pub stands-project : (t n from : ℕ) → o ≡ Operator.Project t n from → from + n ≤ length bs

@@ -17,7 +17,7 @@ use Rattle.theorems.proofs.PlanFields.{Width, widths-checked}
 use Rattle.theorems.proofs.PlanWidths.{Every, widths}
 use Rattle.plans.specs.Walk.{widthsOf, lastAt, Walk}
 use Rattle.cells.specs.Bytes.{Bytes}
-use Rattle.plans.proofs.Fields.{operator-ends}
+use Rattle.plan_records.proofs.Fields.{operator-ends}
 
 -- At the end of the bytes, and before it
 

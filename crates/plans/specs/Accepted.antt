@@ -14,10 +14,10 @@ use Rattle.laws.specs.Attempt.{gives, reads}
 use Rattle.meaning.specs.Written.{testName}
 use Rattle.meaning.specs.Plan.{Op, Placed, plainIn, columnsAt, columns, widthOf, operatorAt, planRead}
 use Rattle.theorems.proofs.PlanFields.{Own, Width}
-use Rattle.plans.specs.declared.Operator.{Operator}
-use Rattle.plans.specs.declared.Operator.the-variants as Operator
-use Rattle.plans.specs.declared.Decoded.{Decoded}
-use Rattle.plans.specs.Decoded.{operatorOf, Stands}
+use Rattle.plan_records.specs.declared.Operator.{Operator}
+use Rattle.plan_records.specs.declared.Operator.the-variants as Operator
+use Rattle.plan_records.specs.declared.Decoded.{Decoded}
+use Rattle.plan_records.specs.Decoded.{operatorOf, Stands}
 use Rattle.plans.specs.Widths.{madeWidth}
 use Rattle.plans.specs.Walk.{widthsOf, Walk}
 

@@ -4,10 +4,10 @@ ghost use mathlib.Core.Bool.{_&&_, _||_};
 ghost use Prim.Native.Nat.{_+_, _≤_, _<_};
 ghost use lib.ListN.{length, take};
 ghost use Rattle.meaning.specs.Plan;
-ghost use Rattle.plans.specs.Decoded.{operatorOf, Stands};
+ghost use Rattle.plan_records.specs.Decoded.{operatorOf, Stands};
 ghost use Rattle.plans.specs.Widths;
-use crate::Operator;
 use cells::byte;
+use plan_records::Operator;
 
 // The tables that an operator names: none, or t and u; u is t where it names only one.
 pub enum Operands {

@@ -7,7 +7,7 @@ use borrow.Author.Needs.{needs}
 use lib.ListN.{length}
 use Rattle.plans.specs.Walk.{Checking}
 use Rattle.cells.specs.Bytes.{Bytes}
-use Rattle.plans.proofs.Fields.{operator-ends}
+use Rattle.plan_records.proofs.Fields.{operator-ends}
 use Rattle.plans.proofs.Ending.{checking-start, checking-excess, checking-unread, checking-unfit, checking-small}
 use Rattle.plans.proofs.Ending.{checking-room, checking-place}
 use Rattle.plans.proofs.Ending.{checking-on, checking-none, checking-three, checking-other, unread, found}

@@ -1,6 +1,6 @@
 -- `suits` meets its contract, operator by operator.
 use borrow.Author.Needs.{needs}
-use Rattle.plans.specs.Decoded.{operatorOf}
+use Rattle.plan_records.specs.Decoded.{operatorOf}
 use Rattle.plans.specs.Widths.{suitable}
 use Rattle.plans.proofs.Suiting.{stands-project, stands-number, suits-project, suits-join, suits-number, suits-apply}
 use Rattle.plans.proofs.Suiting.{suits-value}
