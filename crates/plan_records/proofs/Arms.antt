@@ -18,24 +18,25 @@ use Rattle.cells.specs.declared.Axis.{Axis}
 use Rattle.cells.specs.declared.Test.{Test}
 use Rattle.cells.specs.declared.Function.{Function}
 use Rattle.laws.specs.Attempt.{Attempt, fails, gives, attempt, provided}
-use Rattle.meaning.specs.Query.{functionOf, axisOf, testOf, fragmentOf}
+use Rattle.meaning.specs.Query.{fragmentOf}
+use Rattle.cells.specs.Codes.{functionOf, axisOf, testOf, functionField, axisField, testField, NoneOf}
 use Rattle.meaning.specs.Plan as Plan
 use Rattle.meaning.specs.Plan.{Op, RP, RN, sized, field, table, plainIn, attachAt, projectAt, numberAt, functionAt, stepAt}
 use Rattle.meaning.specs.Plan.{columnsAt, operatorAt, markRT, markRA, markRP, markRU, markRD, markRS, markRJ, markRN}
 use Rattle.meaning.specs.Plan.{markRF, markRC, markRE, markRK, markRX, markRO}
-use Rattle.query_records.proofs.Arms.{NoneOf, fits-cut}
+use Rattle.cells.proofs.Cut.{fits-cut}
 use Rattle.plan_records.specs.declared.Operator.{Operator}
 use Rattle.plan_records.specs.declared.Operator.the-variants as Operator
 use Rattle.plan_records.specs.declared.Reading.{Reading}
 use Rattle.plan_records.specs.declared.Reading.the-variants.{Sound, Unsound}
-use Rattle.plan_records.specs.declared.records.FunctionField.{FunctionField}
-use Rattle.plan_records.specs.declared.records.FunctionField.the-variants as FunctionField
-use Rattle.plan_records.specs.declared.records.AxisField.{AxisField}
-use Rattle.plan_records.specs.declared.records.AxisField.the-variants as AxisField
-use Rattle.plan_records.specs.declared.records.TestField.{TestField}
-use Rattle.plan_records.specs.declared.records.TestField.the-variants as TestField
+use Rattle.cells.specs.declared.codes.FunctionField.{FunctionField}
+use Rattle.cells.specs.declared.codes.FunctionField.the-variants as FunctionField
+use Rattle.cells.specs.declared.codes.AxisField.{AxisField}
+use Rattle.cells.specs.declared.codes.AxisField.the-variants as AxisField
+use Rattle.cells.specs.declared.codes.TestField.{TestField}
+use Rattle.cells.specs.declared.codes.TestField.the-variants as TestField
 use Rattle.plan_records.specs.Arms as Arms
-use Rattle.plan_records.specs.Decoded.{operatorOf, Stands, Means, functionField, axisField, testField}
+use Rattle.plan_records.specs.Decoded.{operatorOf, Stands, Means}
 use Rattle.plan_records.proofs.Sized.{shorter, there, none-reads, bad-reads, cut-reads, cut-before, sound-reads}
 
 -- The range of a number

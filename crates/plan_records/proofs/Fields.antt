@@ -12,8 +12,8 @@ use lib.IntN.{ℤ}
 use Rattle.cells.specs.Bytes.{word, int8, fits, Bytes}
 use Rattle.cells.specs.declared.Test.{Test}
 use Rattle.laws.specs.Attempt.{Attempt, gives, attempt, Given}
-use Rattle.meaning.specs.Query.{functionOf, testOf, fragmentOf}
-use Rattle.meaning.specs.Written.{testName}
+use Rattle.meaning.specs.Query.{fragmentOf}
+use Rattle.cells.specs.Codes.{functionOf, testOf, testName}
 use Rattle.meaning.specs.Plan.{Op, sized, field, attachAt, projectAt, numberAt, functionAt, stepAt, operatorOf, operatorAt}
 use Rattle.meaning.specs.Plan.{markRT, markRA, markRP, markRU, markRD, markRS, markRJ, markRN, markRF, markRC, markRE}
 use Rattle.meaning.specs.Plan.{markRK, markRX, markRO}

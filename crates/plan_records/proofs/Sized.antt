@@ -11,7 +11,7 @@ use lib.ListN.{length}
 use Rattle.cells.specs.Bytes.{fits}
 use Rattle.laws.specs.Attempt.{Attempt, fails, gives, attempt, provided}
 use Rattle.meaning.specs.Plan.{Op, sized}
-use Rattle.query_records.proofs.Arms.{fits-cut, fits-there, fits-room}
+use Rattle.cells.proofs.Cut.{fits-cut, fits-there, fits-room}
 use Rattle.plan_records.specs.declared.Operator.{Operator}
 use Rattle.plan_records.specs.declared.Reading.{Reading}
 use Rattle.plan_records.specs.declared.Reading.the-variants.{Sound, Unsound}

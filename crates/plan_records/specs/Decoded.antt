@@ -3,26 +3,16 @@
 --     readingOf bs r      what reading at an offset found: the operator and the offset after it, or failing
 --     Stands bs o         the columns of Project and the keys of Number stand within the bytes
 --     Means bs r a        what reading found is the attempt a of the definitions, and its columns stand within the bytes
---     functionField, axisField, testField     what stands in a field, or failing
 use Prim.Native.Nat.{ℕ, _+_, _≤_}
 use mathlib.Core.Path.{_≡_}
 use mathlib.Core.List.{List}
 use lib.ListN.{length}
-use Rattle.cells.specs.declared.Function.{Function}
-use Rattle.cells.specs.declared.Axis.{Axis}
-use Rattle.cells.specs.declared.Test.{Test}
 use Rattle.laws.specs.Attempt.{Attempt, fails, gives}
 use Rattle.meaning.specs.Plan.{Op, RT, RA, RP, RU, RD, RS, RJ, RN, RF, RV, RC, RE, RK, RX, RO, columnsAt}
 use Rattle.plan_records.specs.declared.Operator.{Operator}
 use Rattle.plan_records.specs.declared.Operator.the-variants as Operator
 use Rattle.plan_records.specs.declared.Reading.{Reading}
 use Rattle.plan_records.specs.declared.Reading.the-variants as Reading
-use Rattle.plan_records.specs.declared.records.FunctionField.{FunctionField}
-use Rattle.plan_records.specs.declared.records.FunctionField.the-variants as FunctionField
-use Rattle.plan_records.specs.declared.records.AxisField.{AxisField}
-use Rattle.plan_records.specs.declared.records.AxisField.the-variants as AxisField
-use Rattle.plan_records.specs.declared.records.TestField.{TestField}
-use Rattle.plan_records.specs.declared.records.TestField.the-variants as TestField
 
 unfoldable pub operatorOf : List ℕ → Operator → Op
 operatorOf bs Operator.One = RT
@@ -70,15 +60,3 @@ Standing bs Reading.Unsound = Unit {0}
 pub record Means (bs : List ℕ) (r : Reading) (a : Attempt (Op × ℕ)) : Type 0 where
   pub means : readingOf bs r ≡ a
   pub stands : Standing bs r
-
-abbrev pub functionField : FunctionField → Attempt Function
-functionField (FunctionField.Is f) = gives f
-functionField FunctionField.Unsound = fails
-
-abbrev pub axisField : AxisField → Attempt Axis
-axisField (AxisField.Is x) = gives x
-axisField AxisField.Unsound = fails
-
-abbrev pub testField : TestField → Attempt Test
-testField (TestField.Is t) = gives t
-testField TestField.Unsound = fails

@@ -5,38 +5,10 @@ use cells::Axis;
 use cells::Function;
 use cells::Test;
 use cells::fits;
+use cells::marks;
 use cells::word2;
 ghost use Rattle.meaning.specs.Plan;
 ghost use Rattle.plan_records.specs.Decoded.{Means};
-
-// The marks, two ASCII letters each.
-const RT: usize = 0x5254;
-
-const RA: usize = 0x5241;
-
-const RP: usize = 0x5250;
-
-const RU: usize = 0x5255;
-
-const RD: usize = 0x5244;
-
-const RS: usize = 0x5253;
-
-const RJ: usize = 0x524A;
-
-const RN: usize = 0x524E;
-
-const RF: usize = 0x5246;
-
-const RC: usize = 0x5243;
-
-const RE: usize = 0x5245;
-
-const RK: usize = 0x524B;
-
-const RX: usize = 0x5258;
-
-const RO: usize = 0x524F;
 
 // One operator: tables t and u by number, columns c and d from 0. The n columns of Project and the n keys of Number stand in
 // the plan's bytes from an offset on; Number's p is 255 for none.
@@ -128,20 +100,20 @@ pub fn read(plan: &[u8], at: usize) -> Reading
     }
     let mark = word2(plan, at);
     match mark {
-        RT => records::one(plan, at),
-        RA => records::attach(plan, at),
-        RP => records::project(plan, at),
-        RU => records::union(plan, at),
-        RD => records::minus(plan, at),
-        RS => records::select(plan, at),
-        RJ => records::join(plan, at),
-        RN => records::number(plan, at),
-        RF => records::function(plan, at),
-        RC => records::counts(plan, at),
-        RE => records::truths(plan, at),
-        RK => records::once(plan, at),
-        RX => records::step(plan, at),
-        RO => records::root(plan, at),
+        marks::RT => records::one(plan, at),
+        marks::RA => records::attach(plan, at),
+        marks::RP => records::project(plan, at),
+        marks::RU => records::union(plan, at),
+        marks::RD => records::minus(plan, at),
+        marks::RS => records::select(plan, at),
+        marks::RJ => records::join(plan, at),
+        marks::RN => records::number(plan, at),
+        marks::RF => records::function(plan, at),
+        marks::RC => records::counts(plan, at),
+        marks::RE => records::truths(plan, at),
+        marks::RK => records::once(plan, at),
+        marks::RX => records::step(plan, at),
+        marks::RO => records::root(plan, at),
         _ => Reading::Unsound,
     }
 }

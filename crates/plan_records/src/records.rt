@@ -1,41 +1,25 @@
 // The record of each operator: all its bytes are there, and its own fields are in their ranges.
 ghost use mathlib.Core.Path.{_≡_};
 ghost use Rattle.cells.specs.Cell;
-ghost use lib.Dec.{eqb};
-ghost use Rattle.laws.specs.Attempt.{gives, provided};
 ghost use Rattle.meaning.specs.Plan;
-ghost use Rattle.meaning.specs.Query;
-ghost use Rattle.plan_records.specs.Decoded.{Means, functionField, axisField, testField};
+ghost use Rattle.plan_records.specs.Decoded.{Means};
 ghost use Rattle.plan_records.specs.Arms;
 use crate::Decoded;
 use crate::Operator;
 use crate::Reading;
-use cells::Axis;
-use cells::Function;
 use cells::Held;
 use cells::Item;
-use cells::Test;
 use cells::byte;
+use cells::codes::AxisField;
+use cells::codes::FunctionField;
+use cells::codes::TestField;
+use cells::codes::axis_of;
+use cells::codes::function_of;
+use cells::codes::test_of;
 use cells::fits;
 use cells::int8;
 use cells::item_of;
 use cells::word2;
-
-// The function of RF, the axis or the test of RX, or that its number is out of range.
-enum FunctionField {
-    Is(Function),
-    Unsound,
-}
-
-enum AxisField {
-    Is(Axis),
-    Unsound,
-}
-
-enum TestField {
-    Is(Test),
-    Unsound,
-}
 
 // An operator that was read, and the offset after its record.
 fn sound(operator: Operator, next: usize) -> Reading
@@ -182,21 +166,6 @@ pub fn number(plan: &[u8], at: usize) -> Reading
     }
 }
 
-// The function of a number, 1 to 6.
-fn function_of(byte: u8) -> FunctionField
-    ensures { λ r. ⌜ functionField r ≡ Query.functionOf byte ⌝ }
-{
-    match byte {
-        1 => FunctionField::Is(Function::Add),
-        2 => FunctionField::Is(Function::Subtract),
-        3 => FunctionField::Is(Function::Multiply),
-        4 => FunctionField::Is(Function::Divide),
-        5 => FunctionField::Is(Function::Equal),
-        6 => FunctionField::Is(Function::Less),
-        0 | 7..=255 => FunctionField::Unsound,
-    }
-}
-
 // RF with function 7: the value of one column.
 fn value(plan: &[u8], at: usize) -> Reading
     ensures { λ r. ⌜ Means (now (plan .entry)) r (Arms.value (now (plan .entry)) at) ⌝ }
@@ -279,47 +248,6 @@ pub fn once(plan: &[u8], at: usize) -> Reading
     sound(Operator::Once { t, c }, next)
 }
 
-// The axis of a number, 1 to 8.
-fn axis_of(byte: u8) -> AxisField
-    ensures { λ r. ⌜ axisField r ≡ Query.axisOf byte ⌝ }
-{
-    match byte {
-        1 => AxisField::Is(Axis::Child),
-        2 => AxisField::Is(Axis::Descendant),
-        3 => AxisField::Is(Axis::DescendantOrSelf),
-        4 => AxisField::Is(Axis::Itself),
-        5 => AxisField::Is(Axis::Parent),
-        6 => AxisField::Is(Axis::Ancestor),
-        7 => AxisField::Is(Axis::Following),
-        8 => AxisField::Is(Axis::Preceding),
-        0 | 9..=255 => AxisField::Unsound,
-    }
-}
-
-// A test without a name: its name field is 0.
-fn nameless(test: Test, name: usize) -> TestField
-    ensures { λ r. ⌜ testField r ≡ provided (eqb name 0) (gives test) ⌝ }
-{
-    if name == 0 {
-        TestField::Is(test)
-    } else {
-        TestField::Unsound
-    }
-}
-
-// The test of a number, 0 to 3, and a name.
-fn test_of(byte: u8, name: usize) -> TestField
-    ensures { λ r. ⌜ testField r ≡ Query.testOf byte name ⌝ }
-{
-    match byte {
-        0 => nameless(Test::AnyNode, name),
-        1 => nameless(Test::Element, name),
-        2 => nameless(Test::Text, name),
-        3 => TestField::Is(Test::Named(name)),
-        4..=255 => TestField::Unsound,
-    }
-}
-
 // RX: a table, an axis, a test and a name of two bytes.
 pub fn step(plan: &[u8], at: usize) -> Reading
     ensures { λ r. ⌜ Means (now (plan .entry)) r (Arms.step (now (plan .entry)) at) ⌝ }
@@ -347,9 +275,10 @@ pub fn root(plan: &[u8], at: usize) -> Reading
     }
     let next = at + 5;
     let t = word2(plan, at + 2);
-    let k = byte(plan, at + 4);
-    if k == 0 {
-        return Reading::Unsound;
+    let byte = plan[at + 4];
+    let k = byte as usize;
+    match byte {
+        0 => Reading::Unsound,
+        1..=255 => sound(Operator::Root { t, k }, next),
     }
-    sound(Operator::Root { t, k }, next)
 }

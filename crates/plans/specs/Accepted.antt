@@ -11,7 +11,7 @@ use lib.Dec.{eqb, ltb}
 use lib.ListN.{length, getD}
 use Rattle.cells.specs.Cell.{held}
 use Rattle.laws.specs.Attempt.{gives, reads}
-use Rattle.meaning.specs.Written.{testName}
+use Rattle.cells.specs.Codes.{testName}
 use Rattle.meaning.specs.Plan.{Op, Placed, plainIn, columnsAt, columns, widthOf, operatorAt, planRead}
 use Rattle.theorems.proofs.PlanFields.{Own, Width}
 use Rattle.plan_records.specs.declared.Operator.{Operator}

@@ -1,8 +1,8 @@
 -- What the record reader's functions lean on: a record that is there or cut, its fields, and the marks.
---     fits-cut, fits-there, fits-room    what the test of `fits` says
 --     means-cut, means-fails, means-sized    what a record of n bytes means: cut, a bad field, sound
---     axis-none, test-none, function-none, boolean-none    numbers that name nothing
+--     boolean-none       numbers that name nothing
 --     variable-room, variable-fails, variable-means    a record of a variable
+--     apply-none, apply-means    a function
 --     step-no-axis, step-no-test, step-means    a step
 --     record-cut, record-none    no record where the mark is cut, or is none of the thirteen
 use Prim.Native.Nat.{ℕ, _+_, _≤_, _<_}
@@ -16,39 +16,31 @@ use mir.Syntax.{w8}
 use mir.Val.{Fits}
 use lib.ListN.{length}
 use Rattle.cells.specs.Bytes.{byteAt, word, fits}
+use Rattle.cells.specs.Codes.{functionOf, axisOf, testOf, functionField, axisField, testField, NoneOf}
+use Rattle.cells.specs.declared.Function.{Function}
 use Rattle.cells.specs.declared.Axis.{Axis}
 use Rattle.cells.specs.declared.Test.{Test}
 use Rattle.laws.specs.Attempt.{Attempt, fails, gives, attempt, provided}
 use Rattle.meaning.specs.Query as Query
 use Rattle.meaning.specs.Query.{markQL, markQB, markQE, markQR, markQV, markQS, markQT, markQF, markQI, markQO, markQC}
-use Rattle.meaning.specs.Query.{markQD, markQX, sized, functionOf, axisOf, testOf, variableOf, booleanOf}
+use Rattle.meaning.specs.Query.{markQD, markQX, sized, variableOf, booleanOf}
 use Rattle.query_records.specs.declared.Record.{Record}
 use Rattle.query_records.specs.declared.Record.the-variants as Record
 use Rattle.query_records.specs.declared.Reading.{Reading}
 use Rattle.query_records.specs.declared.Reading.the-variants.{Sound, Unsound}
-use Rattle.query_records.specs.declared.AxisField.{AxisField}
-use Rattle.query_records.specs.declared.AxisField.the-variants as AxisField
-use Rattle.query_records.specs.declared.TestField.{TestField}
-use Rattle.query_records.specs.declared.TestField.the-variants as TestField
+use Rattle.cells.specs.declared.codes.FunctionField.{FunctionField}
+use Rattle.cells.specs.declared.codes.FunctionField.the-variants as FunctionField
+use Rattle.cells.specs.declared.codes.AxisField.{AxisField}
+use Rattle.cells.specs.declared.codes.AxisField.the-variants as AxisField
+use Rattle.cells.specs.declared.codes.TestField.{TestField}
+use Rattle.cells.specs.declared.codes.TestField.the-variants as TestField
 use Rattle.query_records.specs.declared.Field.{Field}
 use Rattle.query_records.specs.declared.Field.the-variants as Field
-use Rattle.query_records.specs.Decoded.{recordOf, readingOf, SmallLiteral, Means, numberField, axisField}
-use Rattle.query_records.specs.Decoded.{testField}
-use Rattle.query_records.specs.Arms.{variableAt, variableRecord, stepRecord}
+use Rattle.query_records.specs.Decoded.{recordOf, readingOf, SmallLiteral, Means, numberField}
+use Rattle.query_records.specs.Arms.{variableAt, variableRecord, applyRecord, stepRecord}
 use Rattle.query_records.proofs.Outcomes.{provided-apart, cond-all}
 
 -- A record that is there, or cut
-
-module _ (t : Bool) (bs : List ℕ) (at n : ℕ) (e : t ≡ fits bs at n) where
-  pub fits-cut : not t ≡ true → fits bs at n ≡ false
-  fits-cut h = sym e ∙ not-true t h
-
-  pub fits-there : not t ≡ false → fits bs at n ≡ true
-  fits-there h = sym e ∙ not-false t h
-
-  pub fits-room : not t ≡ false → at + n ≤ length bs
-  unfolding fits
-  fits-room h = leb-true (at + n) (length bs) (fits-there h)
 
 module _ (bs : List ℕ) (at n : ℕ) (a : Attempt Query.Record) where
   sized-cut : fits bs at n ≡ false → sized bs at n a ≡ fails
@@ -72,34 +64,9 @@ module _ (bs : List ℕ) (at n : ℕ) (a : Attempt Query.Record) where
 
 -- Numbers that name nothing
 
--- n is none of the numbers ks, which a `match` tried from the last to the first
-abbrev pub NoneOf : ℕ → List ℕ → Type 0
-NoneOf n [] = Unit {0}
-NoneOf n (k ∷ ks) = NoneOf n ks × (n ≡ k → ⊥)
-
-pub axis-none : (n : ℕ) → NoneOf n (0 ∷ 8 ∷ 7 ∷ 6 ∷ 5 ∷ 4 ∷ 3 ∷ 2 ∷ 1 ∷ []) → axisOf n ≡ fails
-unfolding axisOf
-axis-none n (((((((((h, a), b), c), d), e), f), g), i), z) =
-    simp (ne-eqb n 1 a, ne-eqb n 2 b, ne-eqb n 3 c, ne-eqb n 4 d, ne-eqb n 5 e, ne-eqb n 6 f, ne-eqb n 7 g, ne-eqb n 8 i)
-
-pub function-none : (n : ℕ) → NoneOf n (0 ∷ 6 ∷ 5 ∷ 4 ∷ 3 ∷ 2 ∷ 1 ∷ []) → functionOf n ≡ fails
-unfolding functionOf
-function-none n (((((((h, a), b), c), d), e), f), z) =
-    simp (ne-eqb n 1 a, ne-eqb n 2 b, ne-eqb n 3 c, ne-eqb n 4 d, ne-eqb n 5 e, ne-eqb n 6 f)
-
 pub boolean-none : (n : ℕ) → NoneOf n (1 ∷ 0 ∷ []) → booleanOf n ≡ fails
 unfolding booleanOf
 boolean-none n ((h, a), b) = simp (ne-eqb n 0 a, ne-eqb n 1 b)
-
-provided-fails : {A : Type 0} (t : Bool) → provided {A = A} t fails ≡ fails
-unfolding provided
-provided-fails true = refl
-provided-fails false = refl
-
-pub test-none : (n name : ℕ) → NoneOf n (3 ∷ 2 ∷ 1 ∷ 0 ∷ []) → testOf n name ≡ fails
-unfolding testOf
-test-none n name ((((h, a), b), c), d) =
-    simp (ne-eqb n 0 a, ne-eqb n 1 b, ne-eqb n 2 c, ne-eqb n 3 d) (provided-fails (eqb name 0))
 
 pub record-none :
     (bs : List ℕ) (at m : ℕ) →
@@ -164,6 +131,21 @@ module _ (bs : List ℕ) (at : ℕ) (f : ℕ → Query.Record) where
     unfolding readingOf attempt
     variable-means r k v p h s q =
         rw (p, variable-record, variable-is bs at x e v h, ← q) (record { means = refl; small = s })
+
+-- A function
+
+module _
+    (bs : List ℕ) (at : ℕ) (h : fits bs at 3 ≡ true)
+    (x : FunctionField) (e : functionField x ≡ functionOf (byteAt bs (at + 2))) where
+  pub apply-none : x ≡ FunctionField.Unsound → Means Unsound (applyRecord bs at)
+  unfolding applyRecord attempt
+  apply-none p = means-fails bs at 3 _ h (rw (sym e ∙ ap functionField p))
+
+  pub apply-means :
+      (f : Function) (r : Reading) → x ≡ FunctionField.Is f →
+      r ≡ Sound (record { kind = Record.Apply f; next = at + 3 }) → Means r (applyRecord bs at)
+  unfolding applyRecord attempt recordOf
+  apply-means f r p s = means-sized bs at 3 _ r (Record.Apply f) s h tt (rw (sym e ∙ ap functionField p))
 
 -- A step
 

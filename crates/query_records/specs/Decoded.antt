@@ -3,24 +3,18 @@
 --     readingOf r        what reading at an offset found: the record and the offset after it, or failing
 --     SmallLiteral, Smalls    the literal of a record has a cell far from the greatest number
 --     Means r a          what reading found is the attempt a of the definitions, and its literal is small
---     axisField, testField, numberField    what stands in a field, or failing
+--     numberField f      what stands in a field, or failing
 --     operandsOf r       what follows a record
 use Prim.Native.Nat.{ℕ}
 use mathlib.Core.Path.{_≡_}
 use Rattle.cells.specs.Cell.{cellOf}
 use Rattle.cells.specs.Small.{Small}
-use Rattle.cells.specs.declared.Axis.{Axis}
-use Rattle.cells.specs.declared.Test.{Test}
 use Rattle.laws.specs.Attempt.{Attempt, fails, gives}
 use Rattle.meaning.specs.Query as Query
 use Rattle.query_records.specs.declared.Record.{Record}
 use Rattle.query_records.specs.declared.Record.the-variants as Record
 use Rattle.query_records.specs.declared.Reading.{Reading as Read}
 use Rattle.query_records.specs.declared.Reading.the-variants as Read
-use Rattle.query_records.specs.declared.AxisField.{AxisField}
-use Rattle.query_records.specs.declared.AxisField.the-variants as AxisField
-use Rattle.query_records.specs.declared.TestField.{TestField}
-use Rattle.query_records.specs.declared.TestField.the-variants as TestField
 use Rattle.query_records.specs.declared.Field.{Field}
 use Rattle.query_records.specs.declared.Field.the-variants as Field
 use Rattle.query_records.specs.declared.Operands.{Operands}
@@ -81,14 +75,6 @@ operandsOf (Query.function f) = Operands.Two
 operandsOf Query.counting = Operands.One
 operandsOf Query.values = Operands.One
 operandsOf (Query.step x t) = Operands.One
-
-abbrev pub axisField : AxisField → Attempt Axis
-axisField (AxisField.Is x) = gives x
-axisField AxisField.Unsound = fails
-
-abbrev pub testField : TestField → Attempt Test
-testField (TestField.Is t) = gives t
-testField TestField.Unsound = fails
 
 abbrev pub numberField : Field → Attempt ℕ
 numberField (Field.Is n) = gives n

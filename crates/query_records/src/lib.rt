@@ -5,44 +5,22 @@ use cells::Axis;
 use cells::Function;
 use cells::Item;
 use cells::Test;
+use cells::codes::AxisField;
+use cells::codes::FunctionField;
+use cells::codes::TestField;
+use cells::codes::axis_of;
+use cells::codes::function_of;
+use cells::codes::test_of;
 use cells::fits;
 use cells::int4;
+use cells::marks;
 use cells::word2;
 ghost use mathlib.Core.Path.{_≡_};
-ghost use lib.Dec.{eqb};
 ghost use Rattle.cells.specs.Bytes.{word};
-ghost use Rattle.laws.specs.Attempt.{gives, provided};
 ghost use Rattle.meaning.specs.Query;
-ghost use Rattle.query_records.specs.Decoded.{axisField, testField, numberField, recordOf, Means, operandsOf};
+ghost use Rattle.query_records.specs.Decoded.{numberField, recordOf, Means, operandsOf};
 ghost use Rattle.query_records.specs.Arms.{variableAt, variableRecord, integerRecord, booleanRecord, rootRecord};
 ghost use Rattle.query_records.specs.Arms.{applyRecord, stepRecord};
-
-// The marks, two ASCII letters each.
-const QL: usize = 0x514C;
-
-const QB: usize = 0x5142;
-
-const QE: usize = 0x5145;
-
-const QR: usize = 0x5152;
-
-const QV: usize = 0x5156;
-
-const QS: usize = 0x5153;
-
-const QT: usize = 0x5154;
-
-const QF: usize = 0x5146;
-
-const QI: usize = 0x5149;
-
-const QO: usize = 0x514F;
-
-const QC: usize = 0x5143;
-
-const QD: usize = 0x5144;
-
-const QX: usize = 0x5158;
 
 // One record by itself, without its operands.
 pub enum Record {
@@ -89,60 +67,10 @@ enum Field {
     Unsound,
 }
 
-// The axis or the test of a step, or that its number is out of range.
-enum AxisField {
-    Is(Axis),
-    Unsound,
-}
-
-enum TestField {
-    Is(Test),
-    Unsound,
-}
-
 fn sound(kind: Record, next: usize) -> Reading
     ensures { λ r. ⌜ r ≡ Reading.Sound (record { kind = kind; next = next }) ⌝ }
 {
     Reading::Sound(Decoded { kind, next })
-}
-
-pub fn axis_of(byte: u8) -> AxisField
-    ensures { λ r. ⌜ axisField r ≡ Query.axisOf byte ⌝ }
-{
-    match byte {
-        1 => AxisField::Is(Axis::Child),
-        2 => AxisField::Is(Axis::Descendant),
-        3 => AxisField::Is(Axis::DescendantOrSelf),
-        4 => AxisField::Is(Axis::Itself),
-        5 => AxisField::Is(Axis::Parent),
-        6 => AxisField::Is(Axis::Ancestor),
-        7 => AxisField::Is(Axis::Following),
-        8 => AxisField::Is(Axis::Preceding),
-        0 | 9..=255 => AxisField::Unsound,
-    }
-}
-
-// A test without a name: its name field is 0.
-fn nameless(test: Test, name: usize) -> TestField
-    ensures { λ r. ⌜ testField r ≡ provided (eqb name 0) (gives test) ⌝ }
-{
-    if name == 0 {
-        TestField::Is(test)
-    } else {
-        TestField::Unsound
-    }
-}
-
-pub fn test_of(byte: u8, name: usize) -> TestField
-    ensures { λ r. ⌜ testField r ≡ Query.testOf byte name ⌝ }
-{
-    match byte {
-        0 => nameless(Test::AnyNode, name),
-        1 => nameless(Test::Element, name),
-        2 => nameless(Test::Text, name),
-        3 => TestField::Is(Test::Named(name)),
-        4..=255 => TestField::Unsound,
-    }
 }
 
 // The variable in the third byte of a record.
@@ -233,16 +161,10 @@ fn apply_record(query: &[u8], at: usize) -> Reading
         return Reading::Unsound;
     }
     let next = at + 3;
-    let byte = query[at + 2];
-    match byte {
-        1 => sound(Record::Apply(Function::Add), next),
-        2 => sound(Record::Apply(Function::Subtract), next),
-        3 => sound(Record::Apply(Function::Multiply), next),
-        4 => sound(Record::Apply(Function::Divide), next),
-        5 => sound(Record::Apply(Function::Equal), next),
-        6 => sound(Record::Apply(Function::Less), next),
-        0 | 7..=255 => Reading::Unsound,
-    }
+    let FunctionField::Is(f) = function_of(query[at + 2]) else {
+        return Reading::Unsound;
+    };
+    sound(Record::Apply(f), next)
 }
 
 fn step_record(query: &[u8], at: usize) -> Reading
@@ -271,19 +193,19 @@ pub fn read(query: &[u8], at: usize) -> Reading
     let next = at + 2;
     let mark = word2(query, at);
     match mark {
-        QL => integer_record(query, at),
-        QB => boolean_record(query, at),
-        QE => sound(Record::Empty, next),
-        QR => root_record(query, at),
-        QV => variable_record(query, at),
-        QS => sound(Record::Sequence, next),
-        QT => let_record(query, at),
-        QF => for_record(query, at),
-        QI => sound(Record::If, next),
-        QO => apply_record(query, at),
-        QC => sound(Record::Count, next),
-        QD => sound(Record::Data, next),
-        QX => step_record(query, at),
+        marks::QL => integer_record(query, at),
+        marks::QB => boolean_record(query, at),
+        marks::QE => sound(Record::Empty, next),
+        marks::QR => root_record(query, at),
+        marks::QV => variable_record(query, at),
+        marks::QS => sound(Record::Sequence, next),
+        marks::QT => let_record(query, at),
+        marks::QF => for_record(query, at),
+        marks::QI => sound(Record::If, next),
+        marks::QO => apply_record(query, at),
+        marks::QC => sound(Record::Count, next),
+        marks::QD => sound(Record::Data, next),
+        marks::QX => step_record(query, at),
         _ => Reading::Unsound,
     }
 }

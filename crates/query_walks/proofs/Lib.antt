@@ -2,4 +2,3 @@ pub mod Accepting
 pub mod Parsing
 pub mod Callers
 pub mod Skipping
-pub mod FieldRanges

@@ -3,19 +3,17 @@
 --     Accepted bs r       the bytes parse to r's tree, which is closed and has r's records, at most 128
 --     More a b            what a gives, b gives
 --     Spans rd next o q e     the operands o of a tree q, read by rd from next on, end at e; q's free variables by theirs
---     Fielded q           the fields of every record of a tree are in their ranges
-use Prim.Native.Nat.{ℕ, _≤_, _<_}
+use Prim.Native.Nat.{ℕ, _≤_}
 use mathlib.Core.Path.{_≡_}
 use mathlib.Core.Bool.{false, not, _&&_, _||_}
 use mathlib.Core.List.{List, []}
 use lib.Dec.{eqb}
 use lib.ListN.{length}
 use Rattle.laws.specs.Attempt.{Attempt, gives}
-use Rattle.meaning.specs.Query.{Query, QL, QE, QR, QV, QS, QT, QF, QI, QO, QC, QD, QX, Read, free}
+use Rattle.meaning.specs.Query.{Query, Read, free}
 use Rattle.theorems.proofs.Closed.{Closed, records}
 use Rattle.query_records.specs.declared.Operands.{Operands}
 use Rattle.query_records.specs.declared.Operands.the-variants.{None, Variable, One, Two, Binding, Three}
-use Rattle.query_records.specs.Fields.{PlainCell, NameFits}
 use Rattle.query_walks.specs.Parse.{Parsed, parse}
 
 abbrev pub Parses : Parsed → Read → Type 0
@@ -45,17 +43,3 @@ Spans rd next Three q e =
     (w : Query × ℕ) × (x : Query × ℕ) × (y : Query × ℕ) ×
     (rd next ≡ gives w) × (rd (w .1) ≡ gives x) × (rd (x .1) ≡ gives y) × (y .1 ≡ e) ×
     ((v : ℕ) → free v q ≡ free v (w .0) || free v (x .0) || free v (y .0))
-
-unfoldable pub Fielded : Query → Type 0
-Fielded (QL at z) = PlainCell z
-Fielded (QE at) = Unit {0}
-Fielded (QR at k) = (1 ≤ k) × (k ≤ 255)
-Fielded (QV at v) = v < 8
-Fielded (QS at a b) = Fielded a × Fielded b
-Fielded (QT at v a b) = (v < 8) × Fielded a × Fielded b
-Fielded (QF at v a b) = (v < 8) × Fielded a × Fielded b
-Fielded (QI at c a b) = Fielded c × Fielded a × Fielded b
-Fielded (QO at f a b) = Fielded a × Fielded b
-Fielded (QC at a) = Fielded a
-Fielded (QD at a) = Fielded a
-Fielded (QX at x t a) = NameFits t × Fielded a

@@ -21,7 +21,7 @@ use Rattle.laws.specs.Attempt.{Attempt, gives, attempt, provided}
 use Rattle.meaning.specs.Query.{Query, QL, QE, QR, QV, QS, QT, QF, QI, QO, QC, QD, QX}
 use Rattle.meaning.specs.Plan.{Op, RT, RA, RP, RU, RD, RS, RJ, RN, RF, RV, RC, RE, RK, RX, RO, plainIn, tableWidth, upTo6, columns, widthOf}
 use Rattle.meaning.specs.Translation.{Made, Tables, next, freeIn, othersIn, lifts, ruleL, ruleR, ruleE, tailS, headF, tailF, headI, tailO, tailC, tailD, tailX, then, tr, tailLast, plan}
-use Rattle.meaning.specs.Written.{testName}
+use Rattle.cells.specs.Codes.{testName}
 use Rattle.theorems.proofs.Closed.{Closed}
 use Rattle.theorems.proofs.PlanWidths.{Every, every-getD, every-append, or-true, attempt-gives, provided-gives, widths, plan-widths}
 use Rattle.laws.proofs.Booleans.{both-true}

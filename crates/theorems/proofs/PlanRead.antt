@@ -23,12 +23,13 @@ use Rattle.cells.specs.Cell.{held, falseCell, trueCell}
 use Rattle.cells.specs.declared.Axis.{Axis}
 use Rattle.cells.specs.declared.Test.the-variants.{AnyNode, Element, Text, Named}
 use Rattle.laws.specs.Attempt.{Attempt, fails, gives, attempt, provided, Reading, refuses, reads, reading, refusing, unless}
-use Rattle.meaning.specs.Query.{Query, QL, QE, QR, QV, QS, QT, QF, QI, QO, QC, QD, QX, Record, literal, empty, root, variable, sequence, letting, for, choice, function, counting, values, step, markQL, markQB, markQE, markQR, markQV, markQS, markQT, markQF, markQI, markQO, markQC, markQD, markQX, functionOf, axisOf, testOf, variableOf, fragmentOf, booleanOf, sized, recordOf, recordAt, Read, Operand, bound, leaf, one, two, three, operands, read, queryRead}
+use Rattle.meaning.specs.Query.{Query, QL, QE, QR, QV, QS, QT, QF, QI, QO, QC, QD, QX, Record, literal, empty, root, variable, sequence, letting, for, choice, function, counting, values, step, markQL, markQB, markQE, markQR, markQV, markQS, markQT, markQF, markQI, markQO, markQC, markQD, markQX, variableOf, fragmentOf, booleanOf, sized, recordOf, recordAt, Read, Operand, bound, leaf, one, two, three, operands, read, queryRead}
+use Rattle.cells.specs.Codes.{functionOf, axisOf, testOf, testName}
 use Rattle.meaning.specs.Plan.{plainIn, Op, RT, RA, RP, RU, RD, RS, RJ, RN, RF, RV, RC, RE, RK, RX, RO, operatorAt, widthOf, Placed, placedAt, lastOf, ended, planFrom, planRead}
 use Rattle.meaning.specs.Translation.{plan}
 use Rattle.cells.specs.Bytes.{bytesOf}
 use Rattle.laws.specs.Lists.{gather}
-use Rattle.meaning.specs.Written.{testName, operatorBytes, written}
+use Rattle.meaning.specs.Written.{operatorBytes, written}
 use Rattle.meaning.specs.Calls.{refusal, planOf, translateOutcome, translateCall}
 use Rattle.laws.specs.Rows.{padded}
 use Rattle.meaning.specs.Calls as Calls

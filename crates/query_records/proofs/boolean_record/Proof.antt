@@ -13,7 +13,8 @@ use Rattle.meaning.specs.Query.{booleanOf}
 use Rattle.query_records.specs.declared.Record.the-variants as Record
 use Rattle.query_records.specs.Arms.{booleanRecord}
 use Rattle.query_records.specs.Decoded.{recordOf}
-use Rattle.query_records.proofs.Arms.{fits-cut, fits-room, fits-there, means-cut, means-fails, means-sized}
+use Rattle.cells.proofs.Cut.{fits-cut, fits-room, fits-there}
+use Rattle.query_records.proofs.Arms.{means-cut, means-fails, means-sized}
 use Rattle.query_records.proofs.Arms.{boolean-none}
 use Rattle.query_records.proofs.boolean_record.Statement.{statement}
 use Rattle.query_records.proofs.boolean_record.Tie as tie

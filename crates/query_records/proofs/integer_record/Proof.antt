@@ -18,7 +18,8 @@ use Rattle.meaning.specs.Query.{literal}
 use Rattle.query_records.specs.declared.Record.the-variants as Record
 use Rattle.query_records.specs.Arms.{integerRecord}
 use Rattle.query_records.specs.Decoded.{recordOf}
-use Rattle.query_records.proofs.Arms.{fits-cut, fits-room, fits-there, means-cut, means-sized}
+use Rattle.cells.proofs.Cut.{fits-cut, fits-room, fits-there}
+use Rattle.query_records.proofs.Arms.{means-cut, means-sized}
 use Rattle.query_records.proofs.integer_record.Statement.{statement}
 use Rattle.query_records.proofs.integer_record.Tie as tie
 

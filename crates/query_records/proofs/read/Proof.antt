@@ -11,7 +11,8 @@ use Rattle.query_records.specs.declared.Record.the-variants as Record
 use Rattle.query_records.specs.Arms.{variableRecord, integerRecord, booleanRecord, rootRecord, applyRecord}
 use Rattle.query_records.specs.Arms.{stepRecord}
 use Rattle.query_records.specs.Decoded.{recordOf}
-use Rattle.query_records.proofs.Arms.{fits-cut, fits-room, fits-there, means-sized, means-mark, means-none}
+use Rattle.cells.proofs.Cut.{fits-cut, fits-room, fits-there}
+use Rattle.query_records.proofs.Arms.{means-sized, means-mark, means-none}
 use Rattle.query_records.proofs.Arms.{record-cut, record-none}
 use Rattle.query_records.proofs.read.Statement.{statement}
 use Rattle.query_records.proofs.read.Tie as tie

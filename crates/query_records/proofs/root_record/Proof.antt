@@ -11,7 +11,8 @@ use Rattle.meaning.specs.Query.{fragmentOf}
 use Rattle.query_records.specs.declared.Record.the-variants as Record
 use Rattle.query_records.specs.Arms.{rootRecord}
 use Rattle.query_records.specs.Decoded.{recordOf}
-use Rattle.query_records.proofs.Arms.{fits-cut, fits-room, fits-there, means-cut, means-fails, means-sized}
+use Rattle.cells.proofs.Cut.{fits-cut, fits-room, fits-there}
+use Rattle.query_records.proofs.Arms.{means-cut, means-fails, means-sized}
 use Rattle.query_records.proofs.Arms.{fragment-is}
 use Rattle.query_records.proofs.root_record.Statement.{statement}
 use Rattle.query_records.proofs.root_record.Tie as tie

@@ -7,7 +7,8 @@ use Rattle.cells.specs.Bytes.{fits}
 use Prim.Native.Nat.{_+_, _≤_}
 use lib.ListN.{length}
 use Rattle.query_records.specs.Arms.{stepRecord}
-use Rattle.query_records.proofs.Arms.{fits-cut, fits-room, fits-there, means-cut, step-no-axis, step-no-test}
+use Rattle.cells.proofs.Cut.{fits-cut, fits-room, fits-there}
+use Rattle.query_records.proofs.Arms.{means-cut, step-no-axis, step-no-test}
 use Rattle.query_records.proofs.Arms.{step-means}
 use Rattle.query_records.proofs.step_record.Statement.{statement}
 use Rattle.query_records.proofs.step_record.Tie as tie

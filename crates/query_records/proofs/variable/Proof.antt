@@ -10,7 +10,7 @@ use Rattle.laws.specs.Attempt.{provided}
 use Rattle.meaning.specs.Query.{variableOf}
 use Rattle.query_records.specs.Arms.{variableAt}
 use borrow.Author.Tests.{lt-ltb, le-ltb}
-use Rattle.query_records.proofs.Arms.{fits-cut, fits-room, fits-there}
+use Rattle.cells.proofs.Cut.{fits-cut, fits-room, fits-there}
 use Rattle.query_records.proofs.variable.Statement.{statement}
 use Rattle.query_records.proofs.variable.Tie as tie
 

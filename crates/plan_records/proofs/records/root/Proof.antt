@@ -1,8 +1,10 @@
 -- `root` meets its contract: cut, a bad field, or its fields as they stand.
 use Prim.Native.Nat.{_+_, _≤_}
+use mathlib.Core.Path.{refl}
 use native.Mathlib.Omega.{arith}
 use borrow.Author.Needs.{needs}
 use lib.ListN.{length}
+use Rattle.cells.specs.Bytes.{byteAt}
 use Rattle.plan_records.specs.Arms as Arms
 use Rattle.plan_records.proofs.Sized.{there, cut-reads}
 use Rattle.plan_records.proofs.Arms.{root-bad, root-sound}
@@ -39,27 +41,33 @@ word2-requires c κs = omega (arith, room c)
 add-byte : tie.Need-add-byte
 add-byte c = omega (arith, room (c .before))
 
-byte-requires : tie.Need-byte-requires
-byte-requires c κs = omega (arith, room (c .before))
+shared-slice-read-byte : tie.Need-shared-slice-read-byte
+shared-slice-read-byte c = omega (arith, room (c .before .before))
 
-returns-2 : tie.Need-returns-2
-returns-2 c =
-    let a = c .before .before .before .before .before .before .args in
-    let k = c .before .byte in
-    root-bad (a .plan .now) (a .at) (k .result) (k .ensures .0) (c .if2 .taken)
+cast-k : tie.Need-cast-k
+cast-k c =
+    let a = c .before .before .before .before .before .args in
+    omega (arith, c .shared-slice-known2 .given (a .at + 4))
 
 sound-requires : tie.Need-sound-requires
 sound-requires c κs = search needs
 
+returns-2 : tie.Need-returns-2
+returns-2 c =
+    let e = c .before .before .before in
+    let a = e .before .before .before .args in
+    root-bad (a .plan .now) (a .at) (byteAt (a .plan .now) (a .at + 4)) refl (c .match .keys1)
+
 returns-3 : tie.Need-returns-3
 returns-3 c =
-    let e = c .before .before .before .before in
+    let known = c .before .before in
+    let e = known .before .before in
     let a = e .before .before .before .args in
     let f = e .before .fits2 in
-    let w = c .before .before .before .word2 in
-    let k = c .before .before .byte in
-    root-sound (a .plan .now) (a .at) (k .result) (k .ensures .0) (f .result) (f .ensures) (e .if1 .left)
-    (c .before .if2 .left) (k .ensures .1) (w .result) (w .ensures .0) (c .sound .result) (c .sound .ensures)
+    let w = known .before .word2 in
+    root-sound (a .plan .now) (a .at) (byteAt (a .plan .now) (a .at + 4)) refl (f .result) (f .ensures) (e .if1 .left)
+    (c .before .match .rest .1) (omega (arith, known .shared-slice-known2 .given (a .at + 4))) (w .result) (w .ensures .0)
+    (c .sound .result) (c .sound .ensures)
 
 pub root-spec : {M : Type 1} → statement M
 root-spec =
@@ -71,7 +79,8 @@ root-spec =
     add-word2
     word2-requires
     add-byte
-    byte-requires
-    returns-2
+    shared-slice-read-byte
+    cast-k
     sound-requires
+    returns-2
     returns-3)

@@ -1,9 +1,9 @@
 -- `axis_of` meets its contract: each number by the definition's own table, the refused range by `axis-none`.
 use mathlib.Core.Path.{sym}
-use Rattle.meaning.specs.Query.{axisOf}
-use Rattle.query_records.proofs.Arms.{axis-none}
-use Rattle.plan_records.proofs.records.axis_of.Statement.{statement}
-use Rattle.plan_records.proofs.records.axis_of.Tie as tie
+use Rattle.cells.specs.Codes.{axisOf}
+use Rattle.cells.proofs.Numbers.{axis-none}
+use Rattle.cells.proofs.codes.axis_of.Statement.{statement}
+use Rattle.cells.proofs.codes.axis_of.Tie as tie
 
 returns : tie.Need-returns
 unfolding axisOf

@@ -1,9 +1,9 @@
 -- `test_name` meets its contract, case by case.
 use mathlib.Core.Path.{sym, ap}
-use Rattle.meaning.specs.Written.{testName}
+use Rattle.cells.specs.Codes.{testName}
 use borrow.Author.Needs.{needs}
-use Rattle.writing.proofs.test_name.Statement.{statement}
-use Rattle.writing.proofs.test_name.Tie as tie
+use Rattle.cells.proofs.codes.test_name.Statement.{statement}
+use Rattle.cells.proofs.codes.test_name.Tie as tie
 
 enum-told : tie.Need-enum-told
 enum-told c = search needs

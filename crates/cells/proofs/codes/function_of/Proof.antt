@@ -1,9 +1,9 @@
 -- `function_of` meets its contract: each number by the definition's own table, the refused range by `function-none`.
 use mathlib.Core.Path.{sym}
-use Rattle.meaning.specs.Query.{functionOf}
-use Rattle.query_records.proofs.Arms.{function-none}
-use Rattle.plan_records.proofs.records.function_of.Statement.{statement}
-use Rattle.plan_records.proofs.records.function_of.Tie as tie
+use Rattle.cells.specs.Codes.{functionOf}
+use Rattle.cells.proofs.Numbers.{function-none}
+use Rattle.cells.proofs.codes.function_of.Statement.{statement}
+use Rattle.cells.proofs.codes.function_of.Tie as tie
 
 returns : tie.Need-returns
 unfolding functionOf

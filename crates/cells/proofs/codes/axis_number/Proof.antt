@@ -1,9 +1,9 @@
 -- `axis_number` meets its contract, case by case.
 use mathlib.Core.Path.{sym, ap}
-use Rattle.meaning.specs.Written.{axisNumber}
+use Rattle.cells.specs.Codes.{axisNumber}
 use borrow.Author.Needs.{needs}
-use Rattle.writing.proofs.axis_number.Statement.{statement}
-use Rattle.writing.proofs.axis_number.Tie as tie
+use Rattle.cells.proofs.codes.axis_number.Statement.{statement}
+use Rattle.cells.proofs.codes.axis_number.Tie as tie
 
 enum-told : tie.Need-enum-told
 enum-told c = search needs
