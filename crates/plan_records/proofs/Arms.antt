@@ -2,7 +2,7 @@
 --     in-range, before-range, past-range     the test of a range lo to hi
 --     attach-.., project-.., number-.., apply-.., step-.., root-..     a bad field, a sound one
 --     function-value, function-apply    RF by its function's number
---     of-mark, mark-cut, mark-none    the arm that a mark picks; none where the mark is cut, or is none of the fourteen
+--     of-mark, mark-cut, mark-gap, mark-none    the arm that a mark picks; none where it is cut, or is none of the fourteen
 use Prim.Native.Nat.{ℕ, _+_, _≤_, _<_}
 use mathlib.Core.Path.{_≡_, refl, sym, _∙_, ap, subst}
 use mathlib.Core.Bool.{Bool, true, false, not, cond, _&&_}
@@ -272,3 +272,8 @@ module _ (bs : List ℕ) (at : ℕ) where
       Means bs Unsound (operatorAt bs at)
   unfolding operatorAt
   mark-none m e h = none-reads bs at _ (ap (Plan.operatorOf bs at) (sym e) ∙ operator-none m h)
+
+  -- the one single number between the marks that names nothing
+  pub mark-gap : (m : ℕ) → m ≡ word bs at 2 → m ≡ 0x5242 → Means bs Unsound (operatorAt bs at)
+  unfolding operatorAt Plan.operatorOf
+  mark-gap m e h = none-reads bs at _ (rw (sym e ∙ h))

@@ -114,6 +114,12 @@ pub fn read(plan: &[u8], at: usize) -> Reading
         marks::RK => records::once(plan, at),
         marks::RX => records::step(plan, at),
         marks::RO => records::root(plan, at),
-        _ => Reading::Unsound,
+        0..=0x5240
+        | 0x5242
+        | 0x5247..=0x5249
+        | 0x524C..=0x524D
+        | 0x5251..=0x5252
+        | 0x5256..=0x5257
+        | 0x5259.. => Reading::Unsound,
     }
 }

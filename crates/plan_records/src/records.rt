@@ -86,7 +86,7 @@ pub fn project(plan: &[u8], at: usize) -> Reading
     let from = at + 5;
     match n {
         1..=6 => sound(Operator::Project { t, n, from }, next),
-        _ => Reading::Unsound,
+        0 | 7.. => Reading::Unsound,
     }
 }
 
@@ -162,7 +162,7 @@ pub fn number(plan: &[u8], at: usize) -> Reading
     let from = at + 6;
     match n {
         1..=2 => sound(Operator::Number { t, p, n, from }, next),
-        _ => Reading::Unsound,
+        0 | 3.. => Reading::Unsound,
     }
 }
 

@@ -4,11 +4,12 @@
 --     variable-room, variable-fails, variable-means    a record of a variable
 --     apply-none, apply-means    a function
 --     step-no-axis, step-no-test, step-means    a step
---     record-cut, record-none    no record where the mark is cut, or is none of the thirteen
+--     record-cut, record-gap, record-none    no record where the mark is cut, or is none of the thirteen
 use Prim.Native.Nat.{ℕ, _+_, _≤_, _<_}
 use mathlib.Core.Path.{_≡_, refl, sym, _∙_, ap, subst, subst⁻¹}
 use mathlib.Core.Bool.{Bool, true, false, not, cond}
 use mathlib.Core.List.{List, [], _∷_}
+use mathlib.Core.Logic.{_⊎_, inl, inr}
 use native.Mathlib.Omega.{arith}
 use borrow.Author.Tests.{not-true, not-false, leb-true, leb-false, lt-leb, le-leb, ne-eqb}
 use lib.Dec.{eqb}
@@ -91,6 +92,12 @@ record-none bs at m (((((((((((((h, a), b), c), d), e), f), g), i), j), k), l), 
       ne-eqb m markQD n,
       ne-eqb m markQX o,
     )
+
+-- the two single numbers between the marks that name nothing
+pub record-gap : (bs : List ℕ) (at m : ℕ) → (m ≡ 0x5155) ⊎ (m ≡ 0x5157) → Query.recordOf bs at m ≡ fails
+unfolding Query.recordOf
+record-gap bs at m (inl e) = rw e
+record-gap bs at m (inr e) = rw e
 
 -- A record of a variable
 

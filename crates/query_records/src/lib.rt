@@ -206,7 +206,14 @@ pub fn read(query: &[u8], at: usize) -> Reading
         marks::QC => sound(Record::Count, next),
         marks::QD => sound(Record::Data, next),
         marks::QX => step_record(query, at),
-        _ => Reading::Unsound,
+        0..=0x5141
+        | 0x5147..=0x5148
+        | 0x514A..=0x514B
+        | 0x514D..=0x514E
+        | 0x5150..=0x5151
+        | 0x5155
+        | 0x5157
+        | 0x5159.. => Reading::Unsound,
     }
 }
 

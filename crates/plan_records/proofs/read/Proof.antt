@@ -7,7 +7,7 @@ use Rattle.meaning.specs.Plan.{operatorOf, markRT, markRA, markRP, markRU, mark
 use Rattle.meaning.specs.Plan.{markRE, markRK, markRX, markRO}
 use Rattle.plan_records.specs.Arms as Arms
 use Rattle.plan_records.proofs.Sized.{there}
-use Rattle.plan_records.proofs.Arms.{of-mark, mark-cut, mark-none}
+use Rattle.plan_records.proofs.Arms.{of-mark, mark-cut, mark-gap, mark-none}
 use Rattle.plan_records.proofs.read.Statement.{statement}
 use Rattle.plan_records.proofs.read.Tie as tie
 
@@ -189,7 +189,13 @@ returns-16 : tie.Need-returns-16
 returns-16 c =
     let a = c .before .before .before .before .before .args in
     let m = c .before .word2 in
-    mark-none (a .plan .now) (a .at) (m .result) (m .ensures .0) (c .match .rest)
+    mark-gap (a .plan .now) (a .at) (m .result) (m .ensures .0) (c .match .keys15)
+
+returns-17 : tie.Need-returns-17
+returns-17 c =
+    let a = c .before .before .before .before .before .args in
+    let m = c .before .word2 in
+    mark-none (a .plan .now) (a .at) (m .result) (m .ensures .0) (c .match .rest .0)
 
 pub read-spec : {M : Type 1} → statement M
 read-spec =
@@ -226,4 +232,5 @@ read-spec =
     returns-13
     returns-14
     returns-15
-    returns-16)
+    returns-16
+    returns-17)

@@ -13,7 +13,7 @@ use Rattle.query_records.specs.Arms.{stepRecord}
 use Rattle.query_records.specs.Decoded.{recordOf}
 use Rattle.cells.proofs.Cut.{fits-cut, fits-room, fits-there}
 use Rattle.query_records.proofs.Arms.{means-sized, means-mark, means-none}
-use Rattle.query_records.proofs.Arms.{record-cut, record-none}
+use Rattle.query_records.proofs.Arms.{record-cut, record-gap, record-none}
 use Rattle.query_records.proofs.read.Statement.{statement}
 use Rattle.query_records.proofs.read.Tie as tie
 
@@ -209,7 +209,14 @@ returns-15 c =
     let a = c .before .before .before .before .before .args in
     let m = c .before .word2 in
     means-none (a .query .now) (a .at) _
-    (rw (← m .ensures .0) (record-none (a .query .now) (a .at) (m .result) (c .match .rest)))
+    (rw (← m .ensures .0) (record-gap (a .query .now) (a .at) (m .result) (c .match .keys14)))
+
+returns-16 : tie.Need-returns-16
+returns-16 c =
+    let a = c .before .before .before .before .before .args in
+    let m = c .before .word2 in
+    means-none (a .query .now) (a .at) _
+    (rw (← m .ensures .0) (record-none (a .query .now) (a .at) (m .result) (c .match .rest .0)))
 
 pub read-spec : {M : Type 1} → statement M
 read-spec =
@@ -245,4 +252,5 @@ read-spec =
     returns-12
     returns-13
     returns-14
-    returns-15)
+    returns-15
+    returns-16)
