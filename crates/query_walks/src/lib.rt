@@ -4,8 +4,6 @@ use query_records::Reading;
 use query_records::flags::with;
 use query_records::following;
 use query_records::read;
-ghost use mathlib.Core.Path.{_≡_};
-ghost use mathlib.Core.Bool.{_||_};
 ghost use Rattle.query_walks.specs.Parse.{parse, Past, Free, Either};
 
 // The offset past the operand at an offset, which is at most depth levels deep.
@@ -31,12 +29,6 @@ pub fn skip(query: &[u8], at: usize, depth: usize) -> usize
     }
 }
 
-fn or(a: bool, b: bool) -> bool
-    ensures { λ r. ⌜ r ≡ a || b ⌝ }
-{
-    if a { true } else { b }
-}
-
 // The flags that are set in one row or the other.
 fn either(a: [bool; 8], b: [bool; 8]) -> [bool; 8]
     ensures { λ r. ⌜ Either a b r ⌝ }
@@ -44,7 +36,7 @@ fn either(a: [bool; 8], b: [bool; 8]) -> [bool; 8]
     let mut row = [false; 8];
     let mut v: usize = 0;
     while v < 8 {
-        row[v] = or(a[v], b[v]);
+        row[v] = a[v] | b[v];
         v += 1;
     }
     row

@@ -19,14 +19,11 @@ abbrev μ-loop : tie.MeasureT-loop
 loop-holds : tie.Need-loop-holds Inv-loop μ-loop
 loop-holds c = (omega arith, refl, λ u h. absurd (omega arith))
 
-array-read-or : tie.Need-array-read-or Inv-loop μ-loop
-array-read-or c = omega arith
+array-read-row : tie.Need-array-read-row Inv-loop μ-loop
+array-read-row c = omega arith
 
-array-read-or-2 : tie.Need-array-read-or-2 Inv-loop μ-loop
-array-read-or-2 c = omega arith
-
-or-requires : tie.Need-or-requires Inv-loop μ-loop
-or-requires c κs = search needs
+array-read-row-2 : tie.Need-array-read-row-2 Inv-loop μ-loop
+array-read-row-2 c = omega arith
 
 array-write-row : tie.Need-array-write-row Inv-loop μ-loop
 array-write-row c = omega arith
@@ -39,12 +36,12 @@ loop-less c = omega arith
 
 loop-again : tie.Need-loop-again Inv-loop μ-loop
 loop-again c =
-    let a = c .before .before .before .args in
-    let l = c .before .before .loop in (
+    let a = c .before .before .args in
+    let l = c .before .loop in
+    let flag = getD (a .t1) (l .v) false || getD (a .t2) (l .v) false in (
       omega arith,
-      length-set (l .row) (l .v) (c .or .result) ∙ l .inv .1,
-      flags-more (λ u. getD (a .t1) u false || getD (a .t2) u false) (l .row) (l .v) (c .or .result) (omega arith)
-          (l .inv .2) (c .or .ensures),
+      length-set (l .row) (l .v) flag ∙ l .inv .1,
+      flags-more (λ u. getD (a .t1) u false || getD (a .t2) u false) (l .row) (l .v) flag (omega arith) (l .inv .2) refl,
     )
 
 returns : tie.Need-returns Inv-loop μ-loop
@@ -57,9 +54,8 @@ either-spec =
     Inv-loop
     μ-loop
     loop-holds
-    array-read-or
-    array-read-or-2
-    or-requires
+    array-read-row
+    array-read-row-2
     array-write-row
     add-v
     loop-less
