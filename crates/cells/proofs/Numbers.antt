@@ -12,7 +12,16 @@ use Rattle.cells.specs.Codes.{functionOf, axisOf, testOf, NoneOf}
 pub axis-none : (n : ℕ) → NoneOf n (0 ∷ 8 ∷ 7 ∷ 6 ∷ 5 ∷ 4 ∷ 3 ∷ 2 ∷ 1 ∷ []) → axisOf n ≡ fails
 unfolding axisOf
 axis-none n (((((((((h, a), b), c), d), e), f), g), i), z) =
-    simp (ne-eqb n 1 a, ne-eqb n 2 b, ne-eqb n 3 c, ne-eqb n 4 d, ne-eqb n 5 e, ne-eqb n 6 f, ne-eqb n 7 g, ne-eqb n 8 i)
+    simp (
+      ne-eqb n 1 a,
+      ne-eqb n 2 b,
+      ne-eqb n 3 c,
+      ne-eqb n 4 d,
+      ne-eqb n 5 e,
+      ne-eqb n 6 f,
+      ne-eqb n 7 g,
+      ne-eqb n 8 i,
+    )
 
 pub function-none : (n : ℕ) → NoneOf n (0 ∷ 6 ∷ 5 ∷ 4 ∷ 3 ∷ 2 ∷ 1 ∷ []) → functionOf n ≡ fails
 unfolding functionOf

@@ -1,4 +1,4 @@
--- The numbers of functions, axes and tests (document 01, 'Query records', QO and QX: 1 add, 2 subtract, .., 8 preceding).
+-- The numbers of functions, axes and tests (document 01, 'Query records', QO and QX).
 --     functionOf n, axisOf n     the function and the axis of a number, or failing
 --     testOf n name              the test of a number and a name, or failing
 --     functionNumber f, axisNumber x, testNumber t    the number of a function, an axis, a test

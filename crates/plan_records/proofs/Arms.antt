@@ -2,7 +2,8 @@
 --     in-range, before-range, past-range     the test of a range lo to hi
 --     attach-.., project-.., number-.., apply-.., step-.., root-..     a bad field, a sound one
 --     function-value, function-apply    RF by its function's number
---     of-mark, mark-cut, mark-gap, mark-none    the arm that a mark picks; none where it is cut, or is none of the fourteen
+--     of-mark                        the arm that a mark picks
+--     mark-cut, mark-gap, mark-none    no operator where the mark is cut, or is none of the fourteen
 use Prim.Native.Nat.{ℕ, _+_, _≤_, _<_}
 use mathlib.Core.Path.{_≡_, refl, sym, _∙_, ap, subst}
 use mathlib.Core.Bool.{Bool, true, false, not, cond, _&&_}
@@ -12,17 +13,17 @@ use borrow.Author.Tests.{not-true, not-false, le-leb, lt-leb, ne-eqb}
 use lib.Dec.{eqb, leb}
 use lib.IntN.{ℤ}
 use lib.ListN.{length}
-use Rattle.cells.specs.Bytes.{byteAt, word, int8, fits}
+use Rattle.cells.specs.Bytes.{word, int8, fits}
 use Rattle.cells.specs.Cell.{held}
 use Rattle.cells.specs.declared.Axis.{Axis}
 use Rattle.cells.specs.declared.Test.{Test}
 use Rattle.cells.specs.declared.Function.{Function}
-use Rattle.laws.specs.Attempt.{Attempt, fails, gives, attempt, provided}
+use Rattle.laws.specs.Attempt.{Attempt, fails, attempt, provided}
 use Rattle.meaning.specs.Query.{fragmentOf}
 use Rattle.cells.specs.Codes.{functionOf, axisOf, testOf, functionField, axisField, testField, NoneOf}
 use Rattle.meaning.specs.Plan as Plan
-use Rattle.meaning.specs.Plan.{Op, RP, RN, sized, field, table, plainIn, attachAt, projectAt, numberAt, functionAt, stepAt}
-use Rattle.meaning.specs.Plan.{columnsAt, operatorAt, markRT, markRA, markRP, markRU, markRD, markRS, markRJ, markRN}
+use Rattle.meaning.specs.Plan.{Op, field, plainIn, attachAt, projectAt, numberAt, functionAt, stepAt}
+use Rattle.meaning.specs.Plan.{operatorAt, markRT, markRA, markRP, markRU, markRD, markRS, markRJ, markRN}
 use Rattle.meaning.specs.Plan.{markRF, markRC, markRE, markRK, markRX, markRO}
 use Rattle.cells.proofs.Cut.{fits-cut}
 use Rattle.plan_records.specs.declared.Operator.{Operator}

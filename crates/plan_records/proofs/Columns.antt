@@ -2,14 +2,14 @@
 --     columns-none, columns-past, columns-go     none left; the first is past the width; the first is below it
 --     columns-length     there are n of them
 use Prim.Native.Nat.{ℕ, zero, suc, _+_, _-_, _≤_, _<_}
-use mathlib.Core.Path.{_≡_, refl, sym, _∙_, ap}
+use mathlib.Core.Path.{_≡_, refl, _∙_}
 use mathlib.Core.Bool.{true, false, _&&_}
 use mathlib.Core.List.{List}
 use native.Mathlib.Omega.{arith}
 use native.Mathlib.Numerals.{add-one}
 use borrow.Author.Tests.{lt-ltb, le-ltb}
 use lib.Dec.{ltb}
-use lib.ListN.{length, take, drop, length-take, length-drop}
+use lib.ListN.{length, length-take, length-drop}
 use lib.Seq.{drop-cons}
 use Rattle.cells.specs.Bytes.{byteAt}
 use Rattle.laws.specs.Lists.{all}

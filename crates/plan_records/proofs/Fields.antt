@@ -2,7 +2,7 @@
 --     operator-ends     of the operator at an offset
 use Prim.Native.Nat.{ℕ, _+_, _≤_, _<_}
 use mathlib.Core.Path.{_≡_}
-use mathlib.Core.Bool.{Bool, true, _&&_}
+use mathlib.Core.Bool.{true, _&&_}
 use mathlib.Core.List.{List}
 use native.Mathlib.Omega.{arith}
 use borrow.Author.Tests.{leb-true}
@@ -14,7 +14,8 @@ use Rattle.cells.specs.declared.Test.{Test}
 use Rattle.laws.specs.Attempt.{Attempt, gives, attempt, Given}
 use Rattle.meaning.specs.Query.{fragmentOf}
 use Rattle.cells.specs.Codes.{functionOf, testOf, testName}
-use Rattle.meaning.specs.Plan.{Op, sized, field, attachAt, projectAt, numberAt, functionAt, stepAt, operatorOf, operatorAt}
+use Rattle.meaning.specs.Plan.{Op, sized, field, attachAt, projectAt, numberAt, functionAt, stepAt}
+use Rattle.meaning.specs.Plan.{operatorOf, operatorAt}
 use Rattle.meaning.specs.Plan.{markRT, markRA, markRP, markRU, markRD, markRS, markRJ, markRN, markRF, markRC, markRE}
 use Rattle.meaning.specs.Plan.{markRK, markRX, markRO}
 use Rattle.theorems.proofs.PlanFields.{Own}

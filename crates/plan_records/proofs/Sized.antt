@@ -1,5 +1,5 @@
 -- A record of n bytes: cut, with a bad field, or sound.
---     there, cut-reads, cut-before, sound-reads     by the test of `fits`: the bytes are there; cut; an operator is read
+--     there, cut-reads, cut-before, sound-reads     by the test of `fits`: all bytes there; cut; an operator is read
 --     shorter, bad-reads, none-reads     a record that is cut, has a bad field, or has no mark
 use Prim.Native.Nat.{ℕ, _+_, _≤_, _<_}
 use mathlib.Core.Path.{_≡_, refl, sym}

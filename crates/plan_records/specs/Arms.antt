@@ -1,5 +1,6 @@
 -- The arms of the definitions' `operatorOf`, one for each mark, as the code reads them.
---     one .. root bs at      the record at an offset, taken for one of that mark
+--     one, attach, project, union, minus, select, join, number, function, counts, truths, once, step, root
+--                            the record at an offset, taken for RT, RA, RP, RU, RD, RS, RJ, RN, RF, RC, RE, RK, RX, RO
 --     value, apply           RF with function 7, and with one of the others
 use Prim.Native.Nat.{ℕ, _+_}
 use mathlib.Core.List.{List}

@@ -2,7 +2,8 @@
 --     operatorOf bs o     an operator of the code as one of the definitions; its columns and keys stand in the bytes bs
 --     readingOf bs r      what reading at an offset found: the operator and the offset after it, or failing
 --     Stands bs o         the columns of Project and the keys of Number stand within the bytes
---     Means bs r a        what reading found is the attempt a of the definitions, and its columns stand within the bytes
+--     Standing bs r       the same of what reading found
+--     Means bs r a        what reading found is the attempt a of the definitions, and its columns are within the bytes
 use Prim.Native.Nat.{ℕ, _+_, _≤_}
 use mathlib.Core.Path.{_≡_}
 use mathlib.Core.List.{List}

@@ -1,5 +1,5 @@
 -- The fields of an operator that is read (document 01, 'Plan operators').
---     Ends bs at x       the operator x .0 stands from at to x .1, within the bytes, and its own fields are in their ranges
+--     Ends bs at x       the operator x .0 stands from at to x .1, within the bytes, its own fields in their ranges
 use Prim.Native.Nat.{ℕ, _≤_, _<_}
 use mathlib.Core.List.{List}
 use lib.ListN.{length}

@@ -10,8 +10,8 @@ use cells::word2;
 ghost use Rattle.meaning.specs.Plan;
 ghost use Rattle.plan_records.specs.Decoded.{Means};
 
-// One operator: tables t and u by number, columns c and d from 0. The n columns of Project and the n keys of Number stand in
-// the plan's bytes from an offset on; Number's p is 255 for none.
+// One operator: tables t and u by number, columns c and d from 0. The n columns of Project and the n keys of Number
+// stand in the plan's bytes from an offset on; Number's p is 255 for none.
 pub enum Operator {
     One,
     Attach {

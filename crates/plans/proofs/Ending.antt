@@ -4,21 +4,20 @@
 --     checking-excess, checking-unread, checking-unfit      refusal 5 at the operator at hand
 --     checking-small, checking-on     a sound operator: its width is small, and the check goes on behind it
 --     checking-none, checking-three, checking-other         the end of the bytes: none; the last of width 3, or not
-use Prim.Native.Nat.{ℕ, zero, suc, _+_, _-_, _≤_, _<_}
+use Prim.Native.Nat.{ℕ, _+_, _-_, _≤_, _<_}
 use mathlib.Core.Path.{_≡_, refl, sym, _∙_, ap}
 use mathlib.Core.List.{List, [], _∷_, _++_}
 use mathlib.Core.Bool.{false}
 use native.Mathlib.Omega.{arith}
 use native.Mathlib.Numerals.{add-one}
-use borrow.Author.Tests.{eq-eqb, ne-eqb}
+use borrow.Author.Tests.{ne-eqb}
 use lib.Dec.{eqb}
 use lib.ListN.{length, getD, take, set, length-append, length-set}
 use lib.Seq.{take-suc-set, getD-take}
-use Rattle.laws.specs.Attempt.{Attempt, fails, gives, Reading, refuses, reads, reading, unless}
+use Rattle.laws.specs.Attempt.{fails, gives, refuses, reads, reading, unless}
 use Rattle.meaning.specs.Plan.{Op, Placed, operatorAt, widthOf, lastOf, ended, planRead}
 use Rattle.theorems.proofs.PlanFields.{Width}
 use Rattle.theorems.proofs.PlanWidths.{Every}
-use Rattle.plan_records.specs.declared.Operator.{Operator}
 use Rattle.plan_records.specs.declared.Decoded.{Decoded}
 use Rattle.plan_records.specs.declared.Reading.{Reading as Read}
 use Rattle.plan_records.specs.declared.Reading.the-variants as Read
@@ -29,7 +28,6 @@ use Rattle.plan_records.specs.Decoded.{operatorOf, readingOf, Stands, Standing,
 use Rattle.plans.specs.Widths.{widthField}
 use Rattle.plans.specs.Walk.{checked, planCount, widthsOf, lastAt, Walk, Checking}
 use Rattle.cells.specs.Bytes.{Bytes}
-use Rattle.plan_records.proofs.Fields.{operator-ends}
 use Rattle.plans.proofs.Walking.{walk-start, walk-end, walk-excess, walk-bad, walk-on, last-at, last-width}
 use Rattle.plans.proofs.Walking.{widths-more, unplaced, misplaced}
 

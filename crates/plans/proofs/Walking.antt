@@ -5,13 +5,12 @@
 --     last-width, last-at              the last operator of those done
 use Prim.Native.Nat.{ℕ, zero, suc, _+_, _-_, _≤_, _<_}
 use mathlib.Core.Path.{_≡_, refl, sym, _∙_, ap, subst}
-use mathlib.Core.List.{List, [], _∷_, _++_, map, append-assoc}
+use mathlib.Core.List.{List, [], _∷_, _++_}
 use mathlib.Core.Bool.{Bool, true, false}
 use native.Mathlib.Omega.{arith}
 use borrow.Author.Tests.{le-leb, lt-leb}
-use lib.Dec.{leb, eqb}
 use lib.ListN.{length, getD, length-append}
-use Rattle.laws.specs.Attempt.{Attempt, fails, gives, attempt, Reading, refuses, reads, reading, refusing, unless}
+use Rattle.laws.specs.Attempt.{fails, gives, attempt, Reading, refuses, reading, refusing}
 use Rattle.meaning.specs.Plan.{Op, Placed, operatorAt, widthOf, placedAt, lastOf, ended, planFrom, planRead}
 use Rattle.theorems.proofs.PlanFields.{Width, widths-checked}
 use Rattle.theorems.proofs.PlanWidths.{Every, widths}

@@ -5,12 +5,12 @@
 --     lastAt ps          the offset of the last of them, 0 where there is none
 --     Walk bs done at    the operators `done` stand before at, and what is left of the bytes gives what the whole gives
 --     Checking ..        the same, with the state of the plan check: n widths in ws, the last operator at `last`
-use Prim.Native.Nat.{ℕ, _-_, _≤_, _<_}
+use Prim.Native.Nat.{ℕ, _-_, _≤_}
 use mathlib.Core.Path.{_≡_}
 use mathlib.Core.List.{List, [], _∷_, map}
 use lib.ListN.{length, take}
 use Rattle.laws.specs.Attempt.{Reading, refuses, reads, reading}
-use Rattle.meaning.specs.Plan.{Op, Placed, lastOf, planFrom, planRead}
+use Rattle.meaning.specs.Plan.{Placed, lastOf, planFrom, planRead}
 use Rattle.theorems.proofs.PlanFields.{Width}
 use Rattle.theorems.proofs.PlanWidths.{Every}
 use Rattle.plans.specs.declared.Checked.{Checked}

@@ -18,7 +18,8 @@ pub enum Checked {
     Unsound(usize),
 }
 
-// The operators of a plan from left to right; the widths of their tables stand in the lent bytes. Each record is read once.
+// The operators of a plan from left to right, each record read once; the widths of their tables stand in the lent
+// bytes.
 fn operators(plan: &[u8], widths: &mut [u8]) -> Checked
     requires { ⌜ length (now widths) ≡ 512 ⌝ }
     ensures { λ r. ⌜ checked r ≡ planCount (now (plan .entry)) ⌝ }

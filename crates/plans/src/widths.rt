@@ -74,8 +74,8 @@ fn below(plan: &[u8], from: usize, n: usize, w: usize) -> bool
     true
 }
 
-// Whether an operator suits tables of widths w and v: its columns are columns, the widths are those it asks for, and its own
-// table is not too wide.
+// Whether an operator suits tables of widths w and v: its columns are columns, the widths are those it asks for, and
+// its own table is not too wide.
 fn suits(plan: &[u8], operator: Operator, w: usize, v: usize) -> bool
     requires { ⌜ Stands (now plan) operator × (w < 256) × (v < 256) ⌝ }
     ensures { λ r. ⌜ r ≡ Widths.suitable (operatorOf (now (plan .entry)) operator) w v ⌝ }

@@ -128,7 +128,8 @@ module _ (rd : Operand) (wd : Walker) (ih : Walks rd wd) where
       three wd fs n at ≡ passes (Query.three f (rd vs n at) (rd vs) (rd vs))
   unfolding three Query.three
   three-walks f fs vs n at g =
-      reading-both (wd fs n at) (passes (rd vs n at)) (λ x. two wd fs fs (x .1) (x .0)) (λ x. two wd fs fs (x .1) (x .0))
+      reading-both (wd fs n at) (passes (rd vs n at))
+      (λ x. two wd fs fs (x .1) (x .0)) (λ x. two wd fs fs (x .1) (x .0))
       (ih fs vs n at g) (λ x. refl)
       ∙ sym
       (passes-then (rd vs n at) _ (λ x. two wd fs fs (x .1) (x .0))

@@ -7,11 +7,11 @@
 --     record-cut, record-gap, record-none    no record where the mark is cut, or is none of the thirteen
 use Prim.Native.Nat.{ℕ, _+_, _≤_, _<_}
 use mathlib.Core.Path.{_≡_, refl, sym, _∙_, ap, subst, subst⁻¹}
-use mathlib.Core.Bool.{Bool, true, false, not, cond}
+use mathlib.Core.Bool.{Bool, true, false, cond}
 use mathlib.Core.List.{List, [], _∷_}
 use mathlib.Core.Logic.{_⊎_, inl, inr}
 use native.Mathlib.Omega.{arith}
-use borrow.Author.Tests.{not-true, not-false, leb-true, leb-false, lt-leb, le-leb, ne-eqb}
+use borrow.Author.Tests.{leb-true, leb-false, lt-leb, le-leb, ne-eqb}
 use lib.Dec.{eqb}
 use mir.Syntax.{w8}
 use mir.Val.{Fits}
@@ -157,7 +157,8 @@ module _
 -- A step
 
 module _
-    (bs : List ℕ) (at : ℕ) (h : fits bs at 6 ≡ true) (x : AxisField) (e : axisField x ≡ axisOf (byteAt bs (at + 2))) where
+    (bs : List ℕ) (at : ℕ) (h : fits bs at 6 ≡ true)
+    (x : AxisField) (e : axisField x ≡ axisOf (byteAt bs (at + 2))) where
   pub step-no-axis : x ≡ AxisField.Unsound → Means Unsound (stepRecord bs at)
   unfolding stepRecord attempt
   step-no-axis p = means-fails bs at 6 _ h (rw (sym e ∙ ap axisField p))

@@ -45,7 +45,8 @@ module _ (bs : List ℕ) (at : ℕ) (r : Found) (m : Means r (recordOf bs at (wo
       (x : Query × ℕ) → parse d bs at ≡ gives x → Spans (parse (d - 1) bs) (f .next) p (x .0) (x .1)
   parse-sound f o p h z q s x t =
       subst (λ (o : Operands). Spans (parse (d - 1) bs) (f .next) o (x .0) (x .1)) (sym q ∙ s)
-      (trees-spans (parse (d - 1) bs) (f .next) (Code.recordOf (f .kind)) at x (sym (found-parses bs at r m f h d z) ∙ t))
+      (trees-spans (parse (d - 1) bs) (f .next) (Code.recordOf (f .kind)) at x
+      (sym (found-parses bs at r m f h d z) ∙ t))
 
 -- The end of a tree
 

@@ -1,5 +1,6 @@
 -- The tree at an offset, without the limits that only the query check knows (document 01, 'Query records'):
 -- evaluator and translator read accepted queries, and see neither refusal 2 nor refusal 3.
+--     Parsed            a tree and the offset after it, or failing
 --     lone f a          a tree over one operand, and the offset after it
 --     pair f a b        a tree over two operands, the second read from where the first ends
 --     triple f c a b    a tree over three operands
@@ -19,7 +20,6 @@ use Rattle.meaning.specs.Query.{Query, QL, QE, QR, QV, QS, QT, QF, QI, QO, QC, 
 use Rattle.meaning.specs.Query.{variable, sequence, letting, for, choice, function, counting, values, step, recordOf}
 use Rattle.meaning.specs.Query.{free}
 
--- a tree and the offset after it
 abbrev pub Parsed : Type 0
 Parsed = Attempt (Query × ℕ)
 

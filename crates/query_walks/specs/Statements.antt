@@ -2,7 +2,7 @@
 --     Parses p r          p gives the tree and the offset of what was read
 --     Accepted bs r       the bytes parse to r's tree, which is closed and has r's records, at most 128
 --     More a b            what a gives, b gives
---     Spans rd next o q e     the operands o of a tree q, read by rd from next on, end at e; q's free variables by theirs
+--     Spans rd next o q e     the operands o of a tree q, read by rd from next on, end at e; q's free variables
 use Prim.Native.Nat.{ℕ, _≤_}
 use mathlib.Core.Path.{_≡_}
 use mathlib.Core.Bool.{false, not, _&&_, _||_}

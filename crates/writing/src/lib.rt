@@ -1,5 +1,5 @@
-// Writing the records of a plan over lent bytes. Each function takes the position to write at and gives the position after. It runs
-// on past the lent end, and what does not fit is not written. No function loops but `clear`.
+// Writing the records of a plan over lent bytes. Each function takes the position to write at and gives the position
+// after. It runs on past the lent end, and what does not fit is not written. No function loops but `clear`.
 use cells::Axis;
 use cells::Function;
 use cells::Test;
@@ -100,7 +100,8 @@ fn put_four(plan: &mut [u8], at: usize, a: u8, b: u8, c: u8, d: u8) -> usize
 // Writes how many columns there are, then each.
 fn put_columns(plan: &mut [u8], at: usize, columns: Columns) -> usize
     requires { ⌜ at + 5 < 2 ^ 64 ⌝ }
-    ensures { λ r. ⌜ Pens at (length (columnsOf columns) ∷ columnsOf columns) (now (plan .entry)) (now (plan .exit)) r ⌝ }
+    ensures { λ r. ⌜ Pens at (length (columnsOf columns) ∷ columnsOf columns)
+        (now (plan .entry)) (now (plan .exit)) r ⌝ }
 {
     match columns {
         Columns::One(a) => put_pair(plan, at, 1, a),

@@ -3,13 +3,18 @@ use Prim.Native.Nat.{_+_, _≤_}
 use native.Mathlib.Omega.{arith}
 use borrow.Author.Needs.{needs}
 use lib.ListN.{length}
-use Rattle.meaning.specs.Plan.{operatorOf, markRT, markRA, markRP, markRU, markRD, markRS, markRJ, markRN, markRF, markRC}
+use Rattle.meaning.specs.Plan.{operatorOf}
+use Rattle.meaning.specs.Plan.{markRT, markRA, markRP, markRU, markRD, markRS, markRJ, markRN, markRF, markRC}
 use Rattle.meaning.specs.Plan.{markRE, markRK, markRX, markRO}
 use Rattle.plan_records.specs.Arms as Arms
 use Rattle.plan_records.proofs.Sized.{there}
 use Rattle.plan_records.proofs.Arms.{of-mark, mark-cut, mark-gap, mark-none}
 use Rattle.plan_records.proofs.read.Statement.{statement}
 use Rattle.plan_records.proofs.read.Tie as tie
+
+-- the function's entry, from where its bytes are all there
+abbrev start-of : tie.Else1 → tie.Start
+start-of c = c .before .before .before
 
 fits-requires : tie.Need-fits-requires
 fits-requires c κs = search needs
@@ -76,7 +81,7 @@ root-requires c κs = search needs
 returns-2 : tie.Need-returns-2
 unfolding operatorOf Arms.one
 returns-2 c =
-    let a = c .before .before .before .before .before .before .args in
+    let a = start-of (c .before .before .before) .args in
     let m = c .before .before .word2 in
     of-mark (a .plan .now) (a .at) (c .one .result) (m .result) markRT
     (m .ensures .0) (c .before .match .keys1) (c .one .ensures)
@@ -84,7 +89,7 @@ returns-2 c =
 returns-3 : tie.Need-returns-3
 unfolding operatorOf Arms.attach
 returns-3 c =
-    let a = c .before .before .before .before .before .before .args in
+    let a = start-of (c .before .before .before) .args in
     let m = c .before .before .word2 in
     of-mark (a .plan .now) (a .at) (c .attach .result) (m .result) markRA
     (m .ensures .0) (c .before .match .keys2) (c .attach .ensures)
@@ -92,7 +97,7 @@ returns-3 c =
 returns-4 : tie.Need-returns-4
 unfolding operatorOf Arms.project
 returns-4 c =
-    let a = c .before .before .before .before .before .before .args in
+    let a = start-of (c .before .before .before) .args in
     let m = c .before .before .word2 in
     of-mark (a .plan .now) (a .at) (c .project .result) (m .result) markRP
     (m .ensures .0) (c .before .match .keys3) (c .project .ensures)
@@ -100,7 +105,7 @@ returns-4 c =
 returns-5 : tie.Need-returns-5
 unfolding operatorOf Arms.union
 returns-5 c =
-    let a = c .before .before .before .before .before .before .args in
+    let a = start-of (c .before .before .before) .args in
     let m = c .before .before .word2 in
     of-mark (a .plan .now) (a .at) (c .union .result) (m .result) markRU
     (m .ensures .0) (c .before .match .keys4) (c .union .ensures)
@@ -108,7 +113,7 @@ returns-5 c =
 returns-6 : tie.Need-returns-6
 unfolding operatorOf Arms.minus
 returns-6 c =
-    let a = c .before .before .before .before .before .before .args in
+    let a = start-of (c .before .before .before) .args in
     let m = c .before .before .word2 in
     of-mark (a .plan .now) (a .at) (c .minus .result) (m .result) markRD
     (m .ensures .0) (c .before .match .keys5) (c .minus .ensures)
@@ -116,7 +121,7 @@ returns-6 c =
 returns-7 : tie.Need-returns-7
 unfolding operatorOf Arms.select
 returns-7 c =
-    let a = c .before .before .before .before .before .before .args in
+    let a = start-of (c .before .before .before) .args in
     let m = c .before .before .word2 in
     of-mark (a .plan .now) (a .at) (c .select .result) (m .result) markRS
     (m .ensures .0) (c .before .match .keys6) (c .select .ensures)
@@ -124,7 +129,7 @@ returns-7 c =
 returns-8 : tie.Need-returns-8
 unfolding operatorOf Arms.join
 returns-8 c =
-    let a = c .before .before .before .before .before .before .args in
+    let a = start-of (c .before .before .before) .args in
     let m = c .before .before .word2 in
     of-mark (a .plan .now) (a .at) (c .join .result) (m .result) markRJ
     (m .ensures .0) (c .before .match .keys7) (c .join .ensures)
@@ -132,7 +137,7 @@ returns-8 c =
 returns-9 : tie.Need-returns-9
 unfolding operatorOf Arms.number
 returns-9 c =
-    let a = c .before .before .before .before .before .before .args in
+    let a = start-of (c .before .before .before) .args in
     let m = c .before .before .word2 in
     of-mark (a .plan .now) (a .at) (c .number .result) (m .result) markRN
     (m .ensures .0) (c .before .match .keys8) (c .number .ensures)
@@ -140,7 +145,7 @@ returns-9 c =
 returns-10 : tie.Need-returns-10
 unfolding operatorOf Arms.function
 returns-10 c =
-    let a = c .before .before .before .before .before .before .args in
+    let a = start-of (c .before .before .before) .args in
     let m = c .before .before .word2 in
     of-mark (a .plan .now) (a .at) (c .function .result) (m .result) markRF
     (m .ensures .0) (c .before .match .keys9) (c .function .ensures)
@@ -148,7 +153,7 @@ returns-10 c =
 returns-11 : tie.Need-returns-11
 unfolding operatorOf Arms.counts
 returns-11 c =
-    let a = c .before .before .before .before .before .before .args in
+    let a = start-of (c .before .before .before) .args in
     let m = c .before .before .word2 in
     of-mark (a .plan .now) (a .at) (c .counts .result) (m .result) markRC
     (m .ensures .0) (c .before .match .keys10) (c .counts .ensures)
@@ -156,7 +161,7 @@ returns-11 c =
 returns-12 : tie.Need-returns-12
 unfolding operatorOf Arms.truths
 returns-12 c =
-    let a = c .before .before .before .before .before .before .args in
+    let a = start-of (c .before .before .before) .args in
     let m = c .before .before .word2 in
     of-mark (a .plan .now) (a .at) (c .truths .result) (m .result) markRE
     (m .ensures .0) (c .before .match .keys11) (c .truths .ensures)
@@ -164,7 +169,7 @@ returns-12 c =
 returns-13 : tie.Need-returns-13
 unfolding operatorOf Arms.once
 returns-13 c =
-    let a = c .before .before .before .before .before .before .args in
+    let a = start-of (c .before .before .before) .args in
     let m = c .before .before .word2 in
     of-mark (a .plan .now) (a .at) (c .once .result) (m .result) markRK
     (m .ensures .0) (c .before .match .keys12) (c .once .ensures)
@@ -172,7 +177,7 @@ returns-13 c =
 returns-14 : tie.Need-returns-14
 unfolding operatorOf Arms.step
 returns-14 c =
-    let a = c .before .before .before .before .before .before .args in
+    let a = start-of (c .before .before .before) .args in
     let m = c .before .before .word2 in
     of-mark (a .plan .now) (a .at) (c .step .result) (m .result) markRX
     (m .ensures .0) (c .before .match .keys13) (c .step .ensures)
@@ -180,7 +185,7 @@ returns-14 c =
 returns-15 : tie.Need-returns-15
 unfolding operatorOf Arms.root
 returns-15 c =
-    let a = c .before .before .before .before .before .before .args in
+    let a = start-of (c .before .before .before) .args in
     let m = c .before .before .word2 in
     of-mark (a .plan .now) (a .at) (c .root .result) (m .result) markRO
     (m .ensures .0) (c .before .match .keys14) (c .root .ensures)

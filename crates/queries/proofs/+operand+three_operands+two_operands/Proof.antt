@@ -132,8 +132,9 @@ operand-returns t c =
 operand-returns-2 : (t : ℕ) → operand-lts.Need-returns-2 (operand-callees t) (operand-at t) operand.Post
 unfolding walked
 operand-returns-2 t c =
-    let a = c .before .before .before .before .before .before .args in
-    let r = c .before .before .before .before .read in
+    let reading = c .before .before .before .before in
+    let a = reading .before .before .args in
+    let r = reading .read in
     let f = c .before .before .found .given in
     walk-deep (a .query .now) (a .at) (r .result) (r .ensures .means) (a .depth) (a .flags) (a .n) (f .0 .0) (f .1)
     (c .if1 .taken)
@@ -141,8 +142,9 @@ operand-returns-2 t c =
 operand-returns-3 : (t : ℕ) → operand-lts.Need-returns-3 (operand-callees t) (operand-at t) operand.Post
 unfolding walked
 operand-returns-3 t c =
-    let a = c .before .before .before .before .before .before .before .args in
-    let r = c .before .before .before .before .before .read in
+    let reading = c .before .before .before .before .before in
+    let a = reading .before .before .args in
+    let r = reading .read in
     let f = c .before .before .before .found .given in
     walk-many (a .query .now) (a .at) (r .result) (r .ensures .means) (a .depth) (a .flags) (a .n) (f .0 .0) (f .1)
     (c .if2 .taken)
@@ -205,8 +207,9 @@ following-steps :
     (start t c .args .at)
 following-steps t c p e =
     let a = start t c .args in
-    let r = c .before .before .before .before .before .before .read in
-    let f = c .before .before .before .before .found .given in
+    let found = c .before .before .before .before in
+    let r = found .before .before .read in
+    let f = found .found .given in
     walk-sound (a .query .now) (a .at) (r .result) (r .ensures .means) (a .depth) (a .flags) (a .n) (f .0 .0) (f .1)
     (c .following .result) p (c .before .before .if1 .left) (omega arith) (c .following .ensures) e
 

@@ -19,6 +19,10 @@ use Rattle.query_records.proofs.Arms.{boolean-none}
 use Rattle.query_records.proofs.boolean_record.Statement.{statement}
 use Rattle.query_records.proofs.boolean_record.Tie as tie
 
+-- the function's entry, from where its bytes are all there
+abbrev start-of : tie.Else1 → tie.Start
+start-of c = c .before .before .before
+
 fits-requires : tie.Need-fits-requires
 fits-requires c κs = search needs
 
@@ -61,7 +65,7 @@ sound-requires-2 c κs = search needs
 returns-2 : tie.Need-returns-2
 unfolding booleanRecord booleanOf attempt recordOf cellOf
 returns-2 c =
-    let a = c .before .before .before .before .before .before .args in
+    let a = start-of (c .before .before .before) .args in
     means-sized (a .query .now) (a .at) 3 _ (c .sound .result) (Record.Literal (Item.Truth false))
     (c .sound .ensures) (there (c .before .before .before)) tt
     (rw (c .before .match .keys1))
@@ -69,7 +73,7 @@ returns-2 c =
 returns-3 : tie.Need-returns-3
 unfolding booleanRecord booleanOf attempt recordOf cellOf
 returns-3 c =
-    let a = c .before .before .before .before .before .before .args in
+    let a = start-of (c .before .before .before) .args in
     means-sized (a .query .now) (a .at) 3 _ (c .sound2 .result) (Record.Literal (Item.Truth true))
     (c .sound2 .ensures) (there (c .before .before .before)) tt
     (rw (c .before .match .keys2))

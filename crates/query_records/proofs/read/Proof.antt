@@ -17,6 +17,10 @@ use Rattle.query_records.proofs.Arms.{record-cut, record-gap, record-no
 use Rattle.query_records.proofs.read.Statement.{statement}
 use Rattle.query_records.proofs.read.Tie as tie
 
+-- the function's entry, from where its bytes are all there
+abbrev start-of : tie.Else1 → tie.Start
+start-of c = c .before .before .before
+
 fits-requires : tie.Need-fits-requires
 fits-requires c κs = search needs
 
@@ -90,7 +94,7 @@ step-record-requires c κs = search needs
 returns-2 : tie.Need-returns-2
 unfolding Query.recordOf integerRecord
 returns-2 c =
-    let a = c .before .before .before .before .before .before .args in
+    let a = start-of (c .before .before .before) .args in
     let m = c .before .before .word2 in
     means-mark (a .query .now) (a .at) (c .integer-record .result) (m .result) 0x514C
     (m .ensures .0) (c .before .match .keys1)
@@ -99,7 +103,7 @@ returns-2 c =
 returns-3 : tie.Need-returns-3
 unfolding Query.recordOf booleanRecord
 returns-3 c =
-    let a = c .before .before .before .before .before .before .args in
+    let a = start-of (c .before .before .before) .args in
     let m = c .before .before .word2 in
     means-mark (a .query .now) (a .at) (c .boolean-record .result) (m .result) 0x5142
     (m .ensures .0) (c .before .match .keys2)
@@ -108,7 +112,7 @@ returns-3 c =
 returns-4 : tie.Need-returns-4
 unfolding Query.recordOf recordOf
 returns-4 c =
-    let a = c .before .before .before .before .before .before .args in
+    let a = start-of (c .before .before .before) .args in
     let m = c .before .before .word2 in
     means-mark (a .query .now) (a .at) (c .sound .result) (m .result) 0x5145 (m .ensures .0) (c .before .match .keys3)
     (means-sized (a .query .now) (a .at) 2 _ (c .sound .result) Record.Empty
@@ -117,7 +121,7 @@ returns-4 c =
 returns-5 : tie.Need-returns-5
 unfolding Query.recordOf rootRecord
 returns-5 c =
-    let a = c .before .before .before .before .before .before .args in
+    let a = start-of (c .before .before .before) .args in
     let m = c .before .before .word2 in
     means-mark (a .query .now) (a .at) (c .root-record .result) (m .result) 0x5152
     (m .ensures .0) (c .before .match .keys4)
@@ -126,7 +130,7 @@ returns-5 c =
 returns-6 : tie.Need-returns-6
 unfolding Query.recordOf variableRecord
 returns-6 c =
-    let a = c .before .before .before .before .before .before .args in
+    let a = start-of (c .before .before .before) .args in
     let m = c .before .before .word2 in
     means-mark (a .query .now) (a .at) (c .variable-record .result) (m .result) 0x5156
     (m .ensures .0) (c .before .match .keys5)
@@ -135,7 +139,7 @@ returns-6 c =
 returns-7 : tie.Need-returns-7
 unfolding Query.recordOf recordOf
 returns-7 c =
-    let a = c .before .before .before .before .before .before .args in
+    let a = start-of (c .before .before .before) .args in
     let m = c .before .before .word2 in
     means-mark (a .query .now) (a .at) (c .sound2 .result) (m .result) 0x5153 (m .ensures .0) (c .before .match .keys6)
     (means-sized (a .query .now) (a .at) 2 _ (c .sound2 .result) Record.Sequence
@@ -144,7 +148,7 @@ returns-7 c =
 returns-8 : tie.Need-returns-8
 unfolding Query.recordOf variableRecord
 returns-8 c =
-    let a = c .before .before .before .before .before .before .args in
+    let a = start-of (c .before .before .before) .args in
     let m = c .before .before .word2 in
     means-mark (a .query .now) (a .at) (c .let-record .result) (m .result) 0x5154
     (m .ensures .0) (c .before .match .keys7)
@@ -153,7 +157,7 @@ returns-8 c =
 returns-9 : tie.Need-returns-9
 unfolding Query.recordOf variableRecord
 returns-9 c =
-    let a = c .before .before .before .before .before .before .args in
+    let a = start-of (c .before .before .before) .args in
     let m = c .before .before .word2 in
     means-mark (a .query .now) (a .at) (c .for-record .result) (m .result) 0x5146
     (m .ensures .0) (c .before .match .keys8)
@@ -162,7 +166,7 @@ returns-9 c =
 returns-10 : tie.Need-returns-10
 unfolding Query.recordOf recordOf
 returns-10 c =
-    let a = c .before .before .before .before .before .before .args in
+    let a = start-of (c .before .before .before) .args in
     let m = c .before .before .word2 in
     means-mark (a .query .now) (a .at) (c .sound3 .result) (m .result) 0x5149 (m .ensures .0) (c .before .match .keys9)
     (means-sized (a .query .now) (a .at) 2 _ (c .sound3 .result) Record.If
@@ -171,7 +175,7 @@ returns-10 c =
 returns-11 : tie.Need-returns-11
 unfolding Query.recordOf applyRecord
 returns-11 c =
-    let a = c .before .before .before .before .before .before .args in
+    let a = start-of (c .before .before .before) .args in
     let m = c .before .before .word2 in
     means-mark (a .query .now) (a .at) (c .apply-record .result) (m .result) 0x514F
     (m .ensures .0) (c .before .match .keys10)
@@ -180,7 +184,7 @@ returns-11 c =
 returns-12 : tie.Need-returns-12
 unfolding Query.recordOf recordOf
 returns-12 c =
-    let a = c .before .before .before .before .before .before .args in
+    let a = start-of (c .before .before .before) .args in
     let m = c .before .before .word2 in
     means-mark (a .query .now) (a .at) (c .sound4 .result) (m .result) 0x5143 (m .ensures .0) (c .before .match .keys11)
     (means-sized (a .query .now) (a .at) 2 _ (c .sound4 .result) Record.Count
@@ -189,7 +193,7 @@ returns-12 c =
 returns-13 : tie.Need-returns-13
 unfolding Query.recordOf recordOf
 returns-13 c =
-    let a = c .before .before .before .before .before .before .args in
+    let a = start-of (c .before .before .before) .args in
     let m = c .before .before .word2 in
     means-mark (a .query .now) (a .at) (c .sound5 .result) (m .result) 0x5144 (m .ensures .0) (c .before .match .keys12)
     (means-sized (a .query .now) (a .at) 2 _ (c .sound5 .result) Record.Data
@@ -198,7 +202,7 @@ returns-13 c =
 returns-14 : tie.Need-returns-14
 unfolding Query.recordOf stepRecord
 returns-14 c =
-    let a = c .before .before .before .before .before .before .args in
+    let a = start-of (c .before .before .before) .args in
     let m = c .before .before .word2 in
     means-mark (a .query .now) (a .at) (c .step-record .result) (m .result) 0x5158
     (m .ensures .0) (c .before .match .keys13)

@@ -13,6 +13,18 @@ use Rattle.query_records.proofs.Arms.{step-means}
 use Rattle.query_records.proofs.step_record.Statement.{statement}
 use Rattle.query_records.proofs.step_record.Tie as tie
 
+-- where the bytes are all there, from where the axis is read
+abbrev whole-of : tie.After-axis-of → tie.Else1
+whole-of c = c .before .before
+
+-- where the axis is read, from where it is known
+abbrev axis-read : tie.After-known-told → tie.After-axis-of
+axis-read c = c .before .before .before
+
+-- where the axis is known, from where the test is read
+abbrev axis-known : tie.After-test-of → tie.After-known-told
+axis-known c = c .before .before .before
+
 fits-requires : tie.Need-fits-requires
 fits-requires c κs = search needs
 
@@ -66,13 +78,13 @@ add-test-of : tie.Need-add-test-of
 add-test-of c = omega (arith, room (c .before .before .before .before .before))
 
 shared-slice-read-test-of : tie.Need-shared-slice-read-test-of
-shared-slice-read-test-of c = omega (arith, room (c .before .before .before .before .before .before))
+shared-slice-read-test-of c = omega (arith, room (whole-of (axis-read (c .before))))
 
 add-word2 : tie.Need-add-word2
-add-word2 c = omega (arith, room (c .before .before .before .before .before .before))
+add-word2 c = omega (arith, room (whole-of (axis-read (c .before))))
 
 word2-requires : tie.Need-word2-requires
-word2-requires c κs = omega (arith, room (c .before .before .before .before .before .before))
+word2-requires c κs = omega (arith, room (whole-of (axis-read (c .before))))
 
 test-of-requires : tie.Need-test-of-requires
 test-of-requires c κs = search needs
@@ -85,10 +97,10 @@ enum-told-2 c = search needs
 
 returns-3 : tie.Need-returns-3
 returns-3 c =
-    let e = c .before .before .before .before .before .before .before .before .before .before in
+    let e = whole-of (axis-read (axis-known (c .before .before))) in
     let a = e .before .before .before .args in
-    let x = c .before .before .before .before .before .before .before .before .axis-of in
-    let axis = c .before .before .before .before .before .before .axis .given in
+    let x = axis-read (axis-known (c .before .before)) .axis-of in
+    let axis = axis-known (c .before .before) .before .axis .given in
     let n = c .before .before .before .word2 in
     let t = c .before .before .test-of in
     step-no-test (a .query .now) (a .at) (there e) (x .result) (x .ensures) (n .result) (n .ensures .0)
@@ -99,10 +111,10 @@ sound-requires c κs = search needs
 
 returns-4 : tie.Need-returns-4
 returns-4 c =
-    let e = c .before .before .before .before .before .before .before .before .before .before .before .before in
+    let e = whole-of (axis-read (axis-known (c .before .before .before .before))) in
     let a = e .before .before .before .args in
-    let x = c .before .before .before .before .before .before .before .before .before .before .axis-of in
-    let axis = c .before .before .before .before .before .before .before .before .axis .given in
+    let x = axis-read (axis-known (c .before .before .before .before)) .axis-of in
+    let axis = axis-known (c .before .before .before .before) .before .axis .given in
     let n = c .before .before .before .before .before .word2 in
     let t = c .before .before .before .before .test-of in
     let test = c .before .before .test .given in

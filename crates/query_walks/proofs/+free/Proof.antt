@@ -11,8 +11,8 @@ use Rattle.query_records.specs.declared.Operands.{Operands}
 use Rattle.query_records.specs.declared.Operands.the-variants.{None, Variable, One, Two, Binding, Three}
 use Rattle.query_walks.specs.Parse.{parse}
 use Rattle.query_walks.specs.Statements.{Spans}
-use Rattle.query_walks.proofs.Skipping.{parse-deep, parse-unsound, parse-sound, free-none, free-variable, free-one}
-use Rattle.query_walks.proofs.Skipping.{free-two, free-binding, free-three}
+use Rattle.query_walks.proofs.Skipping.{parse-deep, parse-unsound, parse-sound}
+use Rattle.query_walks.proofs.Skipping.{free-none, free-variable, free-one, free-two, free-binding, free-three}
 use Rattle.query_walks.proofs.free.Reads as free
 use Rattle.query_walks.proofs.free.Kinds as free-kinds
 use Rattle.query_walks.proofs.+free.Lts-free as free-lts
@@ -58,6 +58,13 @@ Start t = free-lts.Start (callees t) (free-at t) free.Post
 
 abbrev start : (t : ℕ) → Known t → Start t
 start t c = c .before .before .before .before .before .before .before
+
+-- where the end of the second of three operands is known
+abbrev Skipped : ℕ → Type 0
+Skipped t = free-lts.After-skip4 (callees t) (free-at t) free.Post
+
+abbrev known : (t : ℕ) → Skipped t → Known t
+known t c = c .before .before .before .before
 
 -- one level less is left
 less : (t : ℕ) (c : Known t) → start t c .args .depth - 1 < t
@@ -157,7 +164,7 @@ free-either-requires-3 : (t : ℕ) → free-lts.Need-either-requires-3 (callees 
 free-either-requires-3 t c κs = search needs
 
 free-free-requires-8 : (t : ℕ) → free-lts.Need-free-requires-8 (callees t) (free-at t) free.Post
-free-free-requires-8 t c κs = omega (arith, less t (c .before .before .before .before .before .before .before))
+free-free-requires-8 t c κs = omega (arith, less t (known t (c .before .before .before)))
 
 free-either-requires-4 : (t : ℕ) → free-lts.Need-either-requires-4 (callees t) (free-at t) free.Post
 free-either-requires-4 t c κs = search needs
@@ -199,25 +206,27 @@ free-returns-6 t c = λ x p.
 
 free-returns-7 : (t : ℕ) → free-lts.Need-returns-7 (callees t) (free-at t) free.Post
 free-returns-7 t c = λ x p.
-    let k = c .before .before .before .before .before .before in
+    let b-free = c .before .before .before in
+    let k = b-free .before .before .before in
     let v = k .v2 .given in
     let a = c .before .before .free5 in
-    let b = c .before .before .before .free4 in
+    let b = b-free .free4 in
     free-binding _ _ _ _ (v .0 .0) _ (a .result) (b .result) (c .either2 .result)
-    (c .before .before .before .before .skip2 .ensures) (a .ensures) (b .ensures)
+    (b-free .before .skip2 .ensures) (a .ensures) (b .ensures)
     (rw (c .before .with2 .ensures) at (c .either2 .ensures))
     (operands t (k .before .before) (Binding (v .0 .0)) (v .1) x p)
 
 free-returns-8 : (t : ℕ) → free-lts.Need-returns-8 (callees t) (free-at t) free.Post
 free-returns-8 t c = λ x p.
-    let k = c .before .before .before .before .before .before .before in
+    let skipped = c .before .before .before .before .before in
+    let k = skipped .before .before in
     let q = c .before .before .before .before .free6 in
     let a = c .before .before .before .free7 in
     let b = c .before .free8 in
     let m = c .before .before .either3 in
     free-three _ _ _ _ _ _ (q .result) (a .result) (b .result) (m .result) (c .either4 .result)
-    (c .before .before .before .before .before .before .skip3 .ensures)
-    (c .before .before .before .before .before .skip4 .ensures)
+    (skipped .before .skip3 .ensures)
+    (skipped .skip4 .ensures)
     (q .ensures) (a .ensures) (b .ensures) (m .ensures) (c .either4 .ensures)
     (operands t (k .before .before) Three (k .enum-told5 .given .1) x p)
 

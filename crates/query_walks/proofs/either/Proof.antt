@@ -3,7 +3,6 @@ use Prim.Native.Nat.{ℕ, _-_, _≤_, _<_}
 use mathlib.Core.Path.{_≡_, refl, _∙_}
 use mathlib.Core.Bool.{false, _||_}
 use native.Mathlib.Omega.{arith}
-use borrow.Author.Needs.{needs}
 use lib.ListN.{length, getD, length-set}
 use Rattle.query_walks.proofs.Skipping.{flags-more}
 use Rattle.query_walks.proofs.either.Statement.{statement}
@@ -41,7 +40,8 @@ loop-again c =
     let flag = getD (a .t1) (l .v) false || getD (a .t2) (l .v) false in (
       omega arith,
       length-set (l .row) (l .v) flag ∙ l .inv .1,
-      flags-more (λ u. getD (a .t1) u false || getD (a .t2) u false) (l .row) (l .v) flag (omega arith) (l .inv .2) refl,
+      flags-more (λ u. getD (a .t1) u false || getD (a .t2) u false) (l .row) (l .v) flag (omega arith)
+          (l .inv .2) refl,
     )
 
 returns : tie.Need-returns Inv-loop μ-loop

@@ -9,6 +9,18 @@ use Rattle.plan_records.proofs.Arms.{apply-bad, apply-sound}
 use Rattle.plan_records.proofs.records.apply.Statement.{statement}
 use Rattle.plan_records.proofs.records.apply.Tie as tie
 
+-- the function's entry, from where its bytes are all there
+abbrev start-of : tie.Else1 → tie.Start
+start-of c = c .before .before .before
+
+-- where the bytes are all there, from where the columns are read
+abbrev whole-of : tie.After-byte2 → tie.Else1
+whole-of c = c .before .before .before
+
+-- where the columns are read, from where the function is
+abbrev columns-read : tie.After-function-of → tie.After-byte2
+columns-read c = c .before .before
+
 fits-requires : tie.Need-fits-requires
 fits-requires c κs = search needs
 
@@ -65,7 +77,7 @@ enum-told c = search needs
 
 returns-2 : tie.Need-returns-2
 returns-2 c =
-    let a = c .before .before .before .before .before .before .before .before .before .before .args in
+    let a = start-of (whole-of (columns-read (c .before .before))) .args in
     let x = c .before .before .function-of in
     apply-bad (a .plan .now) (a .at) (x .result) (x .ensures) (c .enum-told .given .1)
 
@@ -74,12 +86,12 @@ sound-requires c κs = search needs
 
 returns-3 : tie.Need-returns-3
 returns-3 c =
-    let e = c .before .before .before .before .before .before .before .before .before in
+    let e = whole-of (columns-read (c .before .before .before .before)) in
     let a = e .before .before .before .args in
     let f = e .before .fits2 in
-    let w = c .before .before .before .before .before .before .before .before .word2 in
-    let y = c .before .before .before .before .before .before .before .byte in
-    let z = c .before .before .before .before .before .before .byte2 in
+    let w = columns-read (c .before .before .before .before) .before .before .word2 in
+    let y = columns-read (c .before .before .before .before) .before .byte in
+    let z = columns-read (c .before .before .before .before) .byte2 in
     let x = c .before .before .before .before .function-of in
     let g = c .before .before .f .given in
     apply-sound (a .plan .now) (a .at) (x .result) (x .ensures) (f .result) (f .ensures) (e .if1 .left)

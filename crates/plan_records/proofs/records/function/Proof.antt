@@ -8,6 +8,10 @@ use Rattle.plan_records.proofs.Arms.{function-short, function-value, fu
 use Rattle.plan_records.proofs.records.function.Statement.{statement}
 use Rattle.plan_records.proofs.records.function.Tie as tie
 
+-- the function's entry, from where its bytes are all there
+abbrev start-of : tie.Else1 → tie.Start
+start-of c = c .before .before .before
+
 fits-requires : tie.Need-fits-requires
 fits-requires c κs = search needs
 
@@ -39,14 +43,14 @@ apply-requires c κs = search needs
 
 returns-2 : tie.Need-returns-2
 returns-2 c =
-    let a = c .before .before .before .before .before .before .args in
+    let a = start-of (c .before .before .before) .args in
     let n = c .before .before .byte in
     function-value (a .plan .now) (a .at) (n .result) (n .ensures .0) (c .value .result)
     (c .before .match .keys1) (c .value .ensures)
 
 returns-3 : tie.Need-returns-3
 returns-3 c =
-    let a = c .before .before .before .before .before .before .args in
+    let a = start-of (c .before .before .before) .args in
     let n = c .before .before .byte in
     function-apply (a .plan .now) (a .at) (n .result) (n .ensures .0) (c .apply .result)
     (c .before .match .rest .1) (c .apply .ensures)

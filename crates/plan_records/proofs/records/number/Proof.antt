@@ -9,6 +9,14 @@ use Rattle.plan_records.proofs.Arms.{number-short, number-cut, number-b
 use Rattle.plan_records.proofs.records.number.Statement.{statement}
 use Rattle.plan_records.proofs.records.number.Tie as tie
 
+-- the function's entry, from where its bytes are all there
+abbrev start-of : tie.Else1 → tie.Start
+start-of c = c .before .before .before
+
+-- where the count is there, from where the keys are too
+abbrev count-read : tie.Else2 → tie.Else1
+count-read c = c .before .before .before
+
 fits-requires : tie.Need-fits-requires
 fits-requires c κs = search needs
 
@@ -40,17 +48,17 @@ fits-requires-2 c κs = search needs
 
 returns-2 : tie.Need-returns-2
 returns-2 c =
-    let a = c .before .before .before .before .before .before .args in
+    let a = start-of (c .before .before .before) .args in
     let n = c .before .before .byte in
     let f = c .before .fits3 in
     number-cut (a .plan .now) (a .at) (n .result) (n .ensures .0) (f .result) (f .ensures) (c .if2 .taken)
 
 whole :
     (c : tie.Else2) →
-    c .before .before .before .before .before .before .args .at + (6 + c .before .before .byte .result)
-    ≤ length (c .before .before .before .before .before .before .args .plan .now)
+    start-of (count-read c) .args .at + (6 + c .before .before .byte .result)
+    ≤ length (start-of (count-read c) .args .plan .now)
 whole c =
-    let a = c .before .before .before .before .before .before .args in
+    let a = start-of (count-read c) .args in
     let n = c .before .before .byte in
     let f = c .before .fits3 in
     there (a .plan .now) (a .at) (6 + n .result) (f .result) (f .ensures) (c .if2 .left)
@@ -79,7 +87,7 @@ sound-requires c κs = search needs
 returns-3 : tie.Need-returns-3
 returns-3 c =
     let e = c .before .before .before .before .before in
-    let a = e .before .before .before .before .before .before .args in
+    let a = start-of (count-read e) .args in
     let n = e .before .before .byte in
     let f = e .before .fits3 in
     let w = c .before .before .before .before .word2 in
@@ -90,13 +98,13 @@ returns-3 c =
 
 returns-4 : tie.Need-returns-4
 returns-4 c =
-    let a = c .before .before .before .before .before .before .before .before .before .args in
+    let a = start-of (count-read (c .before .before .before)) .args in
     let n = c .before .before .before .before .before .byte in
     number-bad (a .plan .now) (a .at) (n .result) (n .ensures .0) (before-range 1 2 (n .result) (omega arith))
 
 returns-5 : tie.Need-returns-5
 returns-5 c =
-    let a = c .before .before .before .before .before .before .before .before .before .before .args in
+    let a = start-of (count-read (c .before .before .before .before)) .args in
     let n = c .before .before .before .before .before .before .byte in
     number-bad (a .plan .now) (a .at) (n .result) (n .ensures .0) (past-range 1 2 (n .result) (omega arith))
 

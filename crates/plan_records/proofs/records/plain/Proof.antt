@@ -9,6 +9,10 @@ use Rattle.meaning.specs.Plan.{plainIn}
 use Rattle.plan_records.proofs.records.plain.Statement.{statement}
 use Rattle.plan_records.proofs.records.plain.Tie as tie
 
+-- the function's entry, from where the item is known
+abbrev start-of : tie.After-known-told → tie.Start
+start-of c = c .before .before .before .before
+
 item-of-requires : tie.Need-item-of-requires
 item-of-requires c κs = search needs
 
@@ -40,7 +44,7 @@ unfolding plainIn
 returns-2 c =
     let o = c .before .before .before .before .before .item-of in
     let i = c .before .before .before .item .given in
-    let s = c .before .before .before .before .before .before in
+    let s = start-of (c .before .before) in
     ap plainIn
     (sym (ap Held.Item (c .enum-told2 .given .1)) ∙ sym (i .1) ∙ o .ensures
     ∙ ap held (toZ-ofZ w64 (s .args .cell) (record { sfits = s .fits .cell .sfits })))
@@ -50,7 +54,7 @@ unfolding plainIn
 returns-3 c =
     let o = c .before .before .before .before .before .item-of in
     let i = c .before .before .before .item .given in
-    let s = c .before .before .before .before .before .before in
+    let s = start-of (c .before .before) in
     ap plainIn
     (sym (ap Held.Item (c .enum-told3 .given .1)) ∙ sym (i .1) ∙ o .ensures
     ∙ ap held (toZ-ofZ w64 (s .args .cell) (record { sfits = s .fits .cell .sfits })))
@@ -60,7 +64,7 @@ unfolding plainIn
 returns-4 c =
     let o = c .before .before .before .before .before .item-of in
     let i = c .before .before .before .item .given in
-    let s = c .before .before .before .before .before .before in
+    let s = start-of (c .before .before) in
     ap plainIn
     (sym (ap Held.Item (c .enum-told4 .given .1)) ∙ sym (i .1) ∙ o .ensures
     ∙ ap held (toZ-ofZ w64 (s .args .cell) (record { sfits = s .fits .cell .sfits })))

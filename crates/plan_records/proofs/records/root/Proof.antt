@@ -66,8 +66,8 @@ returns-3 c =
     let f = e .before .fits2 in
     let w = known .before .word2 in
     root-sound (a .plan .now) (a .at) (byteAt (a .plan .now) (a .at + 4)) refl (f .result) (f .ensures) (e .if1 .left)
-    (c .before .match .rest .1) (omega (arith, known .shared-slice-known2 .given (a .at + 4))) (w .result) (w .ensures .0)
-    (c .sound .result) (c .sound .ensures)
+    (c .before .match .rest .1) (omega (arith, known .shared-slice-known2 .given (a .at + 4)))
+    (w .result) (w .ensures .0) (c .sound .result) (c .sound .ensures)
 
 pub root-spec : {M : Type 1} → statement M
 root-spec =

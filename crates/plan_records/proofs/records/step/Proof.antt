@@ -9,6 +9,22 @@ use Rattle.plan_records.proofs.Arms.{step-no-axis, step-no-test, step-s
 use Rattle.plan_records.proofs.records.step.Statement.{statement}
 use Rattle.plan_records.proofs.records.step.Tie as tie
 
+-- the function's entry, from where its bytes are all there
+abbrev start-of : tie.Else1 → tie.Start
+start-of c = c .before .before .before
+
+-- where the bytes are all there, from where the axis is read
+abbrev whole-of : tie.After-axis-of → tie.Else1
+whole-of c = c .before .before .before
+
+-- where the axis is read, from where it is known
+abbrev axis-read : tie.After-known-told → tie.After-axis-of
+axis-read c = c .before .before .before
+
+-- where the axis is known, from where the test is read
+abbrev axis-known : tie.After-test-of → tie.After-known-told
+axis-known c = c .before .before .before
+
 fits-requires : tie.Need-fits-requires
 fits-requires c κs = search needs
 
@@ -53,21 +69,21 @@ enum-told c = search needs
 
 returns-2 : tie.Need-returns-2
 returns-2 c =
-    let a = c .before .before .before .before .before .before .before .before .args in
+    let a = start-of (whole-of (c .before .before)) .args in
     let x = c .before .before .axis-of in
     step-no-axis (a .plan .now) (a .at) (x .result) (x .ensures) (c .enum-told .given .1)
 
 add-test-of : tie.Need-add-test-of
-add-test-of c = omega (arith, room (c .before .before .before .before .before .before))
+add-test-of c = omega (arith, room (whole-of (axis-read c)))
 
 shared-slice-read-test-of : tie.Need-shared-slice-read-test-of
-shared-slice-read-test-of c = omega (arith, room (c .before .before .before .before .before .before .before))
+shared-slice-read-test-of c = omega (arith, room (whole-of (axis-read (c .before))))
 
 add-word2-2 : tie.Need-add-word2-2
-add-word2-2 c = omega (arith, room (c .before .before .before .before .before .before .before))
+add-word2-2 c = omega (arith, room (whole-of (axis-read (c .before))))
 
 word2-requires-2 : tie.Need-word2-requires-2
-word2-requires-2 c κs = omega (arith, room (c .before .before .before .before .before .before .before))
+word2-requires-2 c κs = omega (arith, room (whole-of (axis-read (c .before))))
 
 test-of-requires : tie.Need-test-of-requires
 test-of-requires c κs = search needs
@@ -80,10 +96,10 @@ enum-told-2 c = search needs
 
 returns-3 : tie.Need-returns-3
 returns-3 c =
-    let e = c .before .before .before .before .before .before .before .before .before .before .before in
+    let e = whole-of (axis-read (axis-known (c .before .before))) in
     let a = e .before .before .before .args in
-    let x = c .before .before .before .before .before .before .before .before .axis-of in
-    let axis = c .before .before .before .before .before .before .axis .given in
+    let x = axis-read (axis-known (c .before .before)) .axis-of in
+    let axis = axis-known (c .before .before) .before .axis .given in
     let n = c .before .before .before .word22 in
     let y = c .before .before .test-of in
     step-no-test (a .plan .now) (a .at) (x .result) (x .ensures) (n .result) (n .ensures .0) (y .result) (y .ensures)
@@ -94,12 +110,12 @@ sound-requires c κs = search needs
 
 returns-4 : tie.Need-returns-4
 returns-4 c =
-    let e = c .before .before .before .before .before .before .before .before .before .before .before .before .before in
+    let e = whole-of (axis-read (axis-known (c .before .before .before .before))) in
     let a = e .before .before .before .args in
     let f = e .before .fits2 in
-    let w = c .before .before .before .before .before .before .before .before .before .before .before .before .word2 in
-    let x = c .before .before .before .before .before .before .before .before .before .before .axis-of in
-    let axis = c .before .before .before .before .before .before .before .before .axis .given in
+    let w = axis-read (axis-known (c .before .before .before .before)) .before .before .word2 in
+    let x = axis-read (axis-known (c .before .before .before .before)) .axis-of in
+    let axis = axis-known (c .before .before .before .before) .before .axis .given in
     let n = c .before .before .before .before .before .word22 in
     let y = c .before .before .before .before .test-of in
     let test = c .before .before .test .given in
