@@ -17,6 +17,7 @@ from collections import Counter
 sys.dont_write_bytecode = True
 
 import at_bounds
+import bytes as tool
 import catalogue
 import chartask
 import evaluator
@@ -219,29 +220,24 @@ def at_bounds_given():
             yield query_bytes, doc
 
 
-# The examples, as a class would run them: query.xq over the XML files beside it.
-
-EXAMPLE = """xquery version "1.0"; declare base-uri "{folder}/";
-declare function local:told($x) {{
-  if ($x instance of node()) then concat("node ", count($x/ancestor::node()) + count($x/preceding::node()) - 1)
-  else concat("int ", $x) }};
-string-join(for $x in ({query}) return local:told($x), ", ")"""
-
+# The examples, as a class would run them: query.xq over catalogue.xml, as bytes.py prints them for other engines.
 
 def example_text(folder):
-    query_text = (folder / "query.xq").read_text()
-    return EXAMPLE.format(folder=folder.as_uri(), query=query_text).replace("\n", " ")
+    roots = tool.fragments_of((folder / "catalogue.xml").read_bytes())
+    query_text = tool.in_xquery((folder / "query.xq").read_bytes())
+    program = PROLOG.format(roots=", ".join(roots), query=query_text)
+    return program.replace("declare variable", f"{tool.DATA}\ndeclare variable", 1).replace("\n", " ")
 
 
 def report_examples():
     """How many of the examples that give items give the same ones from each engine."""
-    giving = [folder for folder in sorted((HERE.parent / "examples").iterdir()) if folder.is_dir()
-              and (folder / "expected").read_text().startswith("items")]
+    giving = [file.parent for file in sorted((HERE.parent / "examples").glob("*/expected"))
+              if file.read_text().startswith("items")]
     expected = [", ".join((folder / "expected").read_text().split("\n")[1:-2]) for folder in giving]
     for engine in ENGINES:
         told = answers(engine, list(map(example_text, giving)))
         same = sum(map(str.__eq__, told, expected))
-        yield f"{engine}: {same} of the {len(giving)} examples that give items give the same from their query.xq"
+        yield f"{engine}: {same} of the {len(giving)} examples that give items give the same"
 
 
 def report(n, seed):

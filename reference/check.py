@@ -1,8 +1,9 @@
-"""The self check: marked examples, the agreement of both engines, least room, what the cases cover.
+"""The self check: marked examples, the agreement of both engines, rows that are moved, least room, what the cases cover.
 
 Document 01: 'Marked examples', 'What the contracts owe' (demand 3), 'Translation' (the bound), 'Room'.
 """
 
+import pathlib
 from collections import Counter
 
 import chartask
@@ -12,12 +13,14 @@ import generate
 import plan
 import query
 import runner
+import shuffling
 import some_queries
 import translator
 from rooms import plan_of
 
 PLENTY_OF_BYTES = 12 * plan.MOST_OPERATORS
 PLENTY_OF_CELLS = 8192
+FOLDERS = pathlib.Path(__file__).resolve().parent.parent / "examples"
 
 
 class Wrong(Exception):
@@ -108,6 +111,37 @@ def check_agreement(n, seed):
     return f"demand 3, the bound of 37 and the plan check on {n} queries with catalogues: {tally}"
 
 
+def moved(query_bytes, doc, seeds, turning):
+    """The query's plan runs to the same end whoever moves its rows; how many hands were tried. None without a plan."""
+    plan_bytes = plan_of(query_bytes)
+    if plan_bytes is None:
+        return None
+    hand, tried = shuffling.leaning(shuffling.work(plan_bytes, doc, PLENTY_OF_CELLS), seeds, turning)
+    hold(hand is None, f"{query_bytes.hex()} over {doc.hex()}: the plan leans on the order of rows, {hand}")
+    return tried
+
+
+def tally_of_moved(tries):
+    """How many plans there were, how many of them with rows to move, and the runs."""
+    tries = [tried for tried in tries if tried is not None]
+    return f"{len(tries)} plans, {sum(map(bool, tries))} of them with rows to move, {sum(tries)} runs"
+
+
+def check_moved_examples():
+    """Every folder of examples/, with ten seeds and each table turned round alone."""
+    given = [((folder / "query.bin").read_bytes(), (folder / "doc.bin").read_bytes())
+             for folder in sorted(FOLDERS.iterdir()) if (folder / "query.bin").exists()]
+    tries = [moved(query_bytes, doc, range(1, 11), True) for query_bytes, doc in given]
+    return f"rows moved in the examples, the same items and cells: {tally_of_moved(tries)}"
+
+
+def check_moved(n, seed, seeds, turning):
+    """The same on n drawn queries with catalogues."""
+    tries = [moved(query_bytes, doc, seeds, turning) for query_bytes, doc in generate.pairs(n, seed)]
+    how = f"shuffled {len(seeds)} time{'s' if len(seeds) > 1 else ''}{', and each table turned alone' if turning else ''}"
+    return f"rows moved in drawn queries ({how}), the same refusals, items and cells: {tally_of_moved(tries)}"
+
+
 def check_plan(query_bytes, plan_bytes):
     """The written plan reads back to the operators that were written."""
     read_back = [(mark, fields) for mark, fields, _ in plan.read(plan_bytes)[0]]
@@ -160,5 +194,13 @@ def report(pairs, drawn, seed):
     yield check_chartask_example()
     yield check_bound()
     yield check_agreement(pairs, seed)
+    yield check_moved_examples()
+    yield check_moved(pairs // 10, seed + 2, (1,), False)
     yield check_closely(pairs // 20, seed + 1)
     yield from check_cases(drawn, seed)
+
+
+def report_moved(pairs, seed):
+    """The runs whose rows are moved, all of them."""
+    yield check_moved_examples()
+    yield check_moved(pairs, seed + 2, (1, 2), True)

@@ -2,13 +2,21 @@
 
 A fault names the calls whose cases must tell of it. `agreement` stands for chartask's cases,
 where it is not enough that a place or a plan's byte has changed: the engines must disagree,
-and chartask print `same no`.
+and chartask print `same no`. `shuffled` stands for the same cases, where chartask's text must
+stay and only a run whose rows somebody moves may end otherwise.
 """
 
+import struct
 from contextlib import contextmanager
 from typing import NamedTuple
 
+import chartask
 import generate
+import shuffling
+from cells import Refused
+from rooms import plan_of
+
+SEEDS = (1, 2)
 
 FAULTS = []
 
@@ -59,14 +67,26 @@ def answer_now(case):
     """What the model answers now, or the error that it ends in."""
     try:
         return generate.CALLS[case.call](*case.given)
-    except (IndexError, KeyError, TypeError, ValueError) as error:
+    except (IndexError, KeyError, TypeError, ValueError, struct.error) as error:
         return type(error).__name__
+
+
+def leans(doc, query_bytes):
+    """Whether the query's plan leans on the order of rows: shuffled, its run over this catalogue ends otherwise."""
+    plan_bytes = plan_of(query_bytes[:chartask.QUERY_BYTES])
+    try:
+        work = plan_bytes and shuffling.work(plan_bytes, doc[:chartask.DOC_BYTES], chartask.WORK_CELLS)
+    except Refused:
+        return False
+    return bool(work) and shuffling.leaning(work, SEEDS, turning=False)[0] is not None
 
 
 def tells(call, case):
     """Whether the case shows that the model is at fault."""
     if call == "agreement":
         return answer_now(case).endswith("same no\n")
+    if call == "shuffled":
+        return leans(*case.given)
     return answer_now(case) != case.answer
 
 
@@ -80,11 +100,16 @@ def first_to_tell(fault, cases):
     return None
 
 
+def told_in_a_plain_run(fault, cases):
+    """Whether chartask's text of some case is another with the fault planted, nobody moving rows."""
+    return first_to_tell(fault._replace(calls=("chartask",)), cases) is not None
+
+
 def report(drawn, seed):
     """A line for each fault, and whether it was caught; last, how many were."""
     cases = {call: list(generate.cases(call, drawn, seed)) for call in generate.CALLS}
     total = sum(map(len, cases.values()))
-    cases["agreement"] = cases["chartask"]
+    cases["agreement"] = cases["shuffled"] = cases["chartask"]
     caught = 0
     for fault in FAULTS:
         found = first_to_tell(fault, cases)
@@ -94,4 +119,7 @@ def report(drawn, seed):
         caught += 1
         call, number, name = found
         yield f"caught by {call} case {number}: {fault.name} ({name})", True
+        if call == "shuffled":
+            alone = not told_in_a_plain_run(fault, cases)
+            yield f"    {'and by no' if alone else 'BUT ALSO BY A'} plain run of {len(cases['chartask'])}", alone
     yield f"{caught} of {len(FAULTS)} faults caught by {total} cases", caught == len(FAULTS)

@@ -13,10 +13,13 @@ import chartask
 import evaluator
 import query
 import runner
+import sheets
 import some_catalogues
 import some_plans
 import some_queries
+import some_texts
 import translator
+import typed
 from cells import Refused
 from rooms import bytes_needed, cells_needed, drawn_length, items_needed, plan_of
 
@@ -31,6 +34,10 @@ CALLS = {
     "run": lambda plan_bytes, doc, lent: runner.run(plan_bytes, doc, lent),
     "evaluate": lambda query_bytes, doc, lent: evaluator.evaluate(query_bytes, doc, lent),
     "chartask": lambda doc, query_bytes: chartask.printed(doc, query_bytes),
+    "read_text": lambda text, lent: typed.read_text(text, lent),
+    "write_text": lambda query_bytes, lent: typed.write_text(query_bytes, lent),
+    "read_sheets": lambda text, lent: sheets.read_sheets(text, lent),
+    "write_sheets": lambda doc, lent: sheets.write_sheets(doc, lent),
 }
 
 
@@ -134,8 +141,35 @@ def drawn_printing(rng):
     return name, (doc, query_bytes)
 
 
+def drawn_typing(rng):
+    text = some_texts.any_text(rng, rng.choice((6, 14, 30)))
+    return "drawn", (text, drawn_length(rng, typed.read_text(text, 9999).record_bytes))
+
+
+def drawn_wording(rng):
+    query_bytes = some_queries.drawn(rng, rng.choice((4, 12, 30)))
+    if rng.random() < 0.15:
+        return "damaged", (some_queries.damaged(rng, query_bytes), rng.choice((0, 100)))
+    return "drawn", (query_bytes, drawn_length(rng, typed.write_text(query_bytes, 9999).text_bytes))
+
+
+def drawn_sheets(rng):
+    text = some_texts.any_sheets(rng)
+    return "drawn", (text, drawn_length(rng, 10 * sheets.read_sheets(text, 999).rows))
+
+
+def drawn_catalogue_to_write(rng):
+    """Half of them have no texts side by side."""
+    rows = some_catalogues.drawn(rng, rng.choice((5, 9, 30)))
+    doc = some_catalogues.written(some_texts.apart(rows) if rng.random() < 0.5 else rows)
+    if rng.random() < 0.15:
+        doc = some_catalogues.damaged(rng, 9)
+    return "drawn", (doc, drawn_length(rng, sheets.write_sheets(doc, 999).text_bytes))
+
+
 DRAWN = {"check_catalogue": drawn_catalogue, "check_query": drawn_query, "translate": drawn_translation,
-         "run": drawn_run, "evaluate": drawn_evaluation, "chartask": drawn_printing}
+         "run": drawn_run, "evaluate": drawn_evaluation, "chartask": drawn_printing, "read_text": drawn_typing,
+         "write_text": drawn_wording, "read_sheets": drawn_sheets, "write_sheets": drawn_catalogue_to_write}
 
 
 def inputs(call, n, seed):

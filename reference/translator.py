@@ -96,17 +96,27 @@ def both(to, expression, loop, tables):
     return to.expression(a, loop, tables), to.expression(b, loop, tables)
 
 
+def united_by_side(to, united):
+    """`QS`: 'number by p 0, keys 3, 1'."""
+    return to.number(united, 0, 3, 1)
+
+
 def sequence(to, expression, loop, tables):
     """'`QS`: attach 1 to a, 2 to b; union; number by p 0, keys 3, 1; project 0 4 2.'"""
     a, b = both(to, expression, loop, tables)
     marked_a = to.attach(a, 1)
     marked_b = to.attach(b, 2)
-    return to.project(to.number(to.union(marked_a, marked_b), 0, 3, 1), 0, 4, 2)
+    return to.project(united_by_side(to, to.union(marked_a, marked_b)), 0, 4, 2)
 
 
 def lift(to, tables, lifted, rule):
     """'Variables are lifted only where free in the part concerned, by rising number.'"""
     return {v: rule(to, tables[v]) for v in sorted(lifted)}
+
+
+def turns_in_order(to, a):
+    """`QF`: 'N = number a, no p, keys 0, 1'."""
+    return to.number(a, NO_COLUMN, 0, 1)
 
 
 def body_by_inner_iteration(to, body, to_map):
@@ -117,7 +127,7 @@ def body_by_inner_iteration(to, body, to_map):
 def for_each(to, expression, loop, tables):
     """'`QF`: N = number a, no p, keys 0, 1; attach 1; project 3 4 2; from N project 3, project 0 3 ...'"""
     v, (a, b) = expression.fields[0], expression.operands
-    numbered = to.number(to.expression(a, loop, tables), NO_COLUMN, 0, 1)
+    numbered = turns_in_order(to, to.expression(a, loop, tables))
     bound = to.project(to.attach(numbered, 1), 3, 4, 2)
     inner_loop = to.project(numbered, 3)
     to_map = to.project(numbered, 0, 3)
@@ -174,14 +184,24 @@ def values(to, expression, loop, tables):
     return to.project(to.add(b"RF", a, VALUE, (2,)), 0, 1, 3)
 
 
+def nodes_by_rank(to, reached):
+    """`QX`: 'number p 0, key 1'."""
+    return to.number(reached, 0, 1)
+
+
 def step(to, expression, loop, tables):
     """'`QX`: project 0 2; `RX`; number p 0, key 1; project 0 2 1.'"""
     contexts = to.project(to.expression(expression.operands[0], loop, tables), 0, 2)
-    return to.project(to.number(to.add(b"RX", contexts, *expression.fields), 0, 1), 0, 2, 1)
+    return to.project(nodes_by_rank(to, to.add(b"RX", contexts, *expression.fields)), 0, 2, 1)
 
 
 RULES = {b"QL": the_literal, b"QB": the_literal, b"QR": the_root, b"QE": nothing, b"QV": variable, b"QT": let,
          b"QS": sequence, b"QF": for_each, b"QI": choose, b"QO": operate, b"QC": number_of, b"QD": values, b"QX": step}
+
+
+def items_by_place(to, result):
+    """'Last: number p 0, key 1'."""
+    return to.number(result, 0, 1)
 
 
 def operators_of(expression):
@@ -189,7 +209,7 @@ def operators_of(expression):
     to = Translation()
     loop = to.add(b"RT")
     result = to.expression(expression, loop, {})
-    to.project(to.number(result, 0, 1), 0, 3, 2)
+    to.project(items_by_place(to, result), 0, 3, 2)
     return to.operators
 
 

@@ -4,6 +4,7 @@
     python3 reference/vectors.py evaluate       crates/evaluations; likewise run, translate and chartask
     python3 reference/vectors.py all            all of these
     python3 reference/vectors.py faults         plants the faults and tries them on the files as they stand
+    python3 reference/vectors.py order          the faults of order: how many stored texts tell, and how many shuffled runs
 
 How the files are laid out is said in stored.py. What must be printed is the model's alone.
 """
@@ -15,8 +16,9 @@ sys.dont_write_bytecode = True
 
 import at_bounds
 import faults
-import faults_in_engines  # each of the three notes its faults
+import faults_in_engines  # each of the four notes its faults
 import faults_in_meaning
+import faults_in_order
 import faults_in_readers
 import generate
 import query
@@ -99,19 +101,30 @@ def write_checks():
     return stored.write("vectors", [case for call in stored.CHECKS for case in cases(call)])
 
 
+def tells(call, given, text, number):
+    """Whether the stored case shows the fault that is planted now."""
+    if call == "shuffled":
+        return faults.leans(*given)
+    try:
+        now = stored.printed_now("chartask" if call == "agreement" else call, given, number)
+    except (IndexError, KeyError, TypeError, ValueError) as error:
+        now = type(error).__name__
+    return now.endswith("same no\n") if call == "agreement" else now != text
+
+
 def first_to_tell(fault, kept):
-    """The first stored case that prints another text with the fault planted: its call and number; or None."""
+    """The first stored case that tells of the fault: its call and number; or None."""
     with faults.planted(fault):
         for call in fault.calls:
-            its_call = "chartask" if call == "agreement" else call
-            for given, text, number in kept[its_call]:
-                try:
-                    now = stored.printed_now(its_call, given, number)
-                except (IndexError, KeyError, TypeError, ValueError) as error:
-                    now = type(error).__name__
-                if now.endswith("same no\n") if call == "agreement" else now != text:
+            for given, text, number in kept["chartask" if call in ("agreement", "shuffled") else call]:
+                if tells(call, given, text, number):
                     return call, number
     return None
+
+
+def told_in_a_plain_run(fault, kept):
+    """Whether some stored text of chartask is another with the fault planted, nobody moving rows."""
+    return first_to_tell(fault._replace(calls=("chartask",)), kept) is not None
 
 
 def plant_faults():
@@ -120,19 +133,36 @@ def plant_faults():
     for call, its_cases in kept.items():
         wrong = [number for given, text, number in its_cases if stored.printed_now(call, given, number) != text]
         yield f"{call}: {len(its_cases)} stored cases, {len(wrong)} of them not as the model prints them"
-    caught = 0
+    caught = moved = 0
     for fault in faults.FAULTS:
         found = first_to_tell(fault, kept)
         caught += found is not None
         if found is None:
             yield f"NOT CAUGHT: {fault.name}"
-    yield f"{caught} of {len(faults.FAULTS)} faults caught by the stored cases"
+        elif found[0] == "shuffled":
+            moved += 1
+            if told_in_a_plain_run(fault, kept):
+                yield f"NOT CAUGHT by moved rows alone, as it is noted: {fault.name}"
+    yield f"{caught} of {len(faults.FAULTS)} faults caught by the stored cases, {moved} of them only where rows are moved"
+
+
+def count_of_order():
+    """For each fault of order: the stored texts that change, and the stored queries whose plan then leans on order."""
+    kept = stored.read("chartask")
+    for fault in faults.FAULTS:
+        if "shuffled" in fault.calls:
+            with faults.planted(fault):
+                changed = sum(stored.printed_now("chartask", given, number) != text for given, text, number in kept)
+                leaning = sum(faults.leans(*given) for given, _, _ in kept)
+            yield f"{fault.name}: {changed} of {len(kept)} texts change, {leaning} plans lean on order"
 
 
 def report(what):
     """The lines of one command."""
     if what == "faults":
         yield from plant_faults()
+    if what == "order":
+        yield from count_of_order()
     if what in ("checks", "all"):
         yield write_checks()
     for call in stored.SHARED:
@@ -143,7 +173,7 @@ def report(what):
 def main(arguments):
     """The exit status: 2 for a word that is no command, 1 where a fault is not caught."""
     what = arguments[0] if arguments else "checks"
-    if what not in ("checks", "all", "faults", *stored.SHARED):
+    if what not in ("checks", "all", "faults", "order", *stored.SHARED):
         print(__doc__)
         return 2
     well = True

@@ -4,7 +4,7 @@ Element number 3 is `n3`, variables 0 to 7 are `$a` to `$h`, a text of number 5 
 fragment is named differs from place to place, so whoever asks for a text says it.
 """
 
-from catalogue import TEXT
+import sheets
 
 OPERATIONS = {1: "+", 2: "-", 3: "*", 4: "idiv", 5: "eq", 6: "lt"}
 AXES = {1: "child", 2: "descendant", 3: "descendant-or-self", 4: "self", 5: "parent", 6: "ancestor", 7: "following",
@@ -84,16 +84,9 @@ def step(axis, test, name):
 
 def texts_side_by_side(rows):
     """Whether two sibling texts stand next to one another, which XML cannot say."""
-    return any(row.kind == TEXT == after.kind and row.level == after.level for row, after in zip(rows, rows[1:]))
+    return any(map(sheets.side_by_side, rows, rows[1:]))
 
 
 def xml(rows):
     """The XML of one fragment's rows, in one line: a line break would be a text."""
-    text, still_open = [], []
-    for row in rows:
-        while len(still_open) > row.level:
-            text.append(still_open.pop())
-        text.append(str(row.prop) if row.kind == TEXT else f"<n{row.prop}>" if row.size else f"<n{row.prop}/>")
-        if row.size:
-            still_open.append(f"</n{row.prop}>")
-    return "".join(text) + "".join(reversed(still_open))
+    return sheets.text_of(rows)

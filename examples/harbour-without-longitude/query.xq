@@ -1,1 +1,1 @@
-for $a in doc("catalogue.xml")/*/child::n2 return count($a/child::n4)
+for $a in root(1)/child::n2 return count($a/child::n4)

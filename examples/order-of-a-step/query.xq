@@ -1,1 +1,1 @@
-(doc("catalogue.xml")/*/descendant::n4, doc("catalogue.xml")/*/descendant::n3)/parent::node()
+(root(1)/descendant::n4, root(1)/descendant::n3)/parent::node()

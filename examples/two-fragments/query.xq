@@ -1,1 +1,1 @@
-count(doc("catalogue.xml")/*/following::node()), count(doc("catalogue.xml")/*/child::n2/following::node()), doc("catalogue.xml")/*/child::n2/following::node()
+count(root(1)/following::node()), count(root(1)/child::n2/following::node()), root(1)/child::n2/following::node()

@@ -12,12 +12,12 @@ use mathlib.Core.Bool.{Bool, true, cond}
 use lib.Dec.{eqb}
 use lib.IntN.{ℤ}
 use borrow.Author.Tests.{eq-eqb}
-use Rattle.laws.specs.Lists.{gather}
-use Rattle.laws.specs.Keyed.{within}
-use Rattle.laws.proofs.Lists.{All, all-kept}
-use Rattle.laws.proofs.Filters.{In, in-filter, in-none, no-cons}
+use Rattle.laws.specs.Lists.{gather, All, In}
+use Rattle.laws.specs.Keyed.{within, filled}
+use Rattle.laws.proofs.Lists.{all-kept}
+use Rattle.laws.proofs.Filters.{in-filter, in-none, no-cons}
 use Rattle.laws.proofs.Booleans.{by-cases, clash}
-use Rattle.laws.proofs.Groups.{filled, within-gather}
+use Rattle.laws.proofs.Groups.{within-gather}
 use Rattle.laws.specs.Attempt.{Attempt, fails, gives, attempt, each}
 use Rattle.agreement.specs.Typed.{Triple, Loop, iterOf}
 use Rattle.agreement.specs.Families.{Family, Mask, placed, Represents, Loops, Outside, Agree, agrees, failing}

@@ -1,16 +1,15 @@
 -- Laws of `each` and `extended`: every member gives, or one fails.
 --     got a                    what an attempt gives, nothing where it fails
---     Outcome f xs             all members give and `each` gathers what they give, or a member fails and so does `each`
+--     Outcome f xs             all members give and `each` gathers what they give, or one fails and so does `each`
 --     outcome f xs             one of the two
---     each-fails, each-gives, each-known     `each` where a member fails; where all give; where what they give is known
+--     each-fails, each-gives, each-known     `each` where a member fails; where all give; where it is known what
 --     extended-then            a row's function, then a function of each row so extended, is one `each`
 --     alone k a                an attempt at one thing, given as k of it
 use mathlib.Core.Path.{_≡_, refl, sym, ap, _∙_, subst}
 use mathlib.Core.Logic.{inl, inr}
 use mathlib.Core.List.{List, [], _∷_, _++_, map}
-use Rattle.laws.specs.Lists.{gather}
-use Rattle.laws.proofs.Lists.{All}
-use Rattle.laws.proofs.Filters.{In, all-in}
+use Rattle.laws.specs.Lists.{gather, All, In}
+use Rattle.laws.proofs.Filters.{all-in}
 use Rattle.laws.specs.Attempt.{Attempt, fails, gives, attempt, each}
 use Rattle.agreement.specs.Typed.{extended}
 

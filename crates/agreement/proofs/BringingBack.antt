@@ -12,14 +12,14 @@ use mathlib.Core.Bool.{true, false}
 use lib.Dec.{eqb, leb}
 use borrow.Author.Tests.{eqb-true, leb-false}
 use Rattle.cells.specs.Cell.{same}
-use Rattle.laws.specs.Lists.{filter, gather}
-use Rattle.laws.specs.Sorting.{sort}
-use Rattle.laws.specs.Keyed.{Key, risingBy, within, joined}
-use Rattle.laws.proofs.Lists.{All, all-any, all-append, all-both, all-map, all-mapped, all-passed, rising-kept}
+use Rattle.laws.specs.Lists.{filter, gather, All}
+use Rattle.laws.specs.Sorting.{sort, Sorted, tied}
+use Rattle.laws.specs.Keyed.{Key, risingBy, within, joined, LawfulKey, AtMostOne, absent, present}
+use Rattle.laws.proofs.Lists.{all-any, all-append, all-both, all-map, all-mapped, all-passed, rising-kept}
 use Rattle.laws.proofs.Filters.{all-filter, gather-each, gather-same, map-gather}
-use Rattle.laws.proofs.Sorting.{Sorted, LawfulKey, tied, risingBy-weak, tied-keys, sort-sorted, sort-parts}
+use Rattle.laws.proofs.Sorting.{risingBy-weak, tied-keys, sort-sorted, sort-parts}
 use Rattle.laws.proofs.Sorting.{sorted-append}
-use Rattle.laws.proofs.Numbering.{AtMostOne, absent, present, rising-once}
+use Rattle.laws.proofs.Numbering.{rising-once}
 use Rattle.laws.proofs.Joins.{joined-at, joined-right, gather-none}
 use Rattle.laws.proofs.Groups.{within-gather}
 use Rattle.agreement.specs.Typed.{Triple, iterOf, itemOf, byNumber, outerOf, outerInOrder}

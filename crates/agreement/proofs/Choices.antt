@@ -1,11 +1,14 @@
 -- QI: a condition, then one of two branches.
 --     kept-at                  a variable's table kept to a loop
+--     items-placed             the items of placed rows by rising place
 --     others                   the iterations of m that a decision d does not take
 --     union                    two runs, one on each part, laid one after the other
 --     branch                   the two branches, for any decision on the iterations of the loop
 --     decision                 the condition's truth in an iteration
 --     then-loops               the then-loop holds the iterations whose condition is true
 --     rule-I                   the agreement of QI
+--     Parted m ρ l n vars      the iterations of m parted in two: those of loop n, and the others of loop l
+--     parted                   .. by a condition
 use Prim.Native.Nat.{ℕ, _<_}
 use native.Mathlib.Omega.{arith}
 use mathlib.Core.Path.{_≡_, refl, sym, ap, ap₂, _∙_, subst, fun-ext}
@@ -13,16 +16,16 @@ use mathlib.Core.List.{List, [], _∷_, _++_, map, append-nil}
 use mathlib.Core.Bool.{Bool, true, false, not, cond, _&&_}
 use lib.Dec.{eqb}
 use lib.IntN.{ℤ}
-use Rattle.laws.specs.Lists.{filter, gather}
-use Rattle.laws.specs.Keyed.{risingBy, within, without, numbersIn, joined}
-use Rattle.laws.proofs.Lists.{All}
+use Rattle.laws.specs.Lists.{filter, gather, All}
+use Rattle.laws.specs.Keyed.{risingBy, within, without, numbersIn, joined, filled}
 use Rattle.laws.proofs.Filters.{filter-map, filter-append, filter-comm}
 use Rattle.laws.proofs.Booleans.{by-cases, clash}
 use Rattle.laws.proofs.Joins.{joined-at, gather-one, gather-none}
-use Rattle.laws.proofs.Groups.{filled, not-filled, any-filter, without-at}
+use Rattle.laws.proofs.Groups.{not-filled, any-filter, without-at}
 use Rattle.laws.specs.Attempt.{Attempt, fails, gives, attempt, each}
+use Rattle.laws.proofs.Outcomes.{gives-same}
 use Rattle.meaning.specs.World.{World}
-use Rattle.theorems.proofs.Nodes.{Lawful}
+use Rattle.theorems.specs.Nodes.{Lawful}
 use Rattle.meaning.specs.Meaning.{Env}
 use Rattle.agreement.specs.Typed.{Triple, Loop, Vars, Sem, iterOf, placeOf, itemOf, byNumber, itemsInOrder}
 use Rattle.agreement.specs.Typed.{truthsOf, thenLoop, keptIn, branches, semI}
@@ -33,6 +36,7 @@ use Rattle.agreement.proofs.Agreeing.{agree-to, outside-filled}
 use Rattle.agreement.proofs.Keys.{later-last, before-le}
 use Rattle.agreement.proofs.Tables.{map-placed, sort-placed}
 use Rattle.agreement.proofs.PerIteration.{Worked, allWork, oneDoesNot, worked}
+use Rattle.agreement.proofs.Distinct.{Shown}
 
 kept-at : (l : Loop) (d : Mask) → Loops l d → (t : List Triple) (i : ℕ)
     → within iterOf i (keptIn l t) ≡ cond (d i) (within iterOf i t) []
@@ -123,7 +127,7 @@ place-later : (i : ℕ) (x y : Triple) → x .iter ≡ i → y .iter ≡ i → x
     → risingBy (byNumber placeOf ∷ []) y x ≡ false
 place-later i x y a b h = later-last _ y x (before-le (y .place) (x .place) (omega arith))
 
-items-placed : (i : ℕ) (xs : List ℤ) → itemsInOrder (placed i 0 xs) ≡ xs
+pub items-placed : (i : ℕ) (xs : List ℤ) → itemsInOrder (placed i 0 xs) ≡ xs
 unfolding itemsInOrder
 items-placed i xs =
     ap (map itemOf) (sort-placed (risingBy (byNumber placeOf ∷ [])) i (place-later i) xs) ∙ map-placed i 0 xs
@@ -220,3 +224,40 @@ module _ (w : World) (lawful : Lawful w) (m : Mask) (c : List Triple) (s : Famil
           failing i (outside-filled m s out i k)
           (ap (λ x. attempt x (λ t. cond t (f i) (g i))) (alone-failed (λ b. (i, b)) (w .truth (s i)) e))
           (ap (λ x. attempt x rest) (truths-run ∙ r))
+
+  chosen-loops : (ds : List (ℕ × Bool)) → truthsOf w c ≡ gives ds → Loops (thenLoop ds) decision
+  chosen-loops ds d = go (worked s number truthRow own c rep)
+    where
+      go : Worked s number truthRow (each truthRow (numbersIn iterOf c)) → Loops (thenLoop ds) decision
+      go (allWork us e given at) =
+          subst (λ x. Loops (thenLoop x) decision) (gives-same (sym (truths-run ∙ e) ∙ d))
+          (then-loops us at (λ i. truth-means i (given i)))
+      go (oneDoesNot i k e r) = fails-gives (truths-run ∙ r) d
+
+-- the loops of both branches, and what the variables hold in them
+pub record Parted (m : Mask) (ρ : ℕ → Env) (l n : Loop) (vars : Vars) : Type 0 where
+  pub chosen : Mask
+  pub chosen-loop : Loops n chosen
+  pub chosen-holds : Holds chosen ρ (λ u. keptIn n (vars u))
+  pub rest : Mask
+  pub rest-loop : Loops (without l n) rest
+  pub rest-holds : Holds rest ρ (λ u. keptIn (without l n) (vars u))
+
+pub parted : (w : World) → Lawful w → {m : Mask} {c : List Triple} (h : Shown m c) (ρ : ℕ → Env) (l : Loop)
+    (vars : Vars) → Loops l m → Holds m ρ vars → (ds : List (ℕ × Bool)) → truthsOf w c ≡ gives ds
+    → Parted m ρ l (thenLoop ds) vars
+parted w lawful {m} {c} h ρ l vars loops holds ds d =
+    let chosen = decision w lawful m c (h .family) (h .outside) (h .rows) in
+    let sub = inside w lawful m c (h .family) (h .outside) (h .rows) in
+    let first = chosen-loops w lawful m c (h .family) (h .outside) (h .rows) ds d in
+    let second = loops-others m chosen sub l (thenLoop ds) loops first in
+    record {
+      chosen = chosen;
+      chosen-loop = first;
+      chosen-holds = holds-kept m chosen sub ρ vars holds chosen sub (thenLoop ds) first;
+      rest = others m chosen sub;
+      rest-loop = second;
+      rest-holds =
+          holds-kept m chosen sub ρ vars holds (others m chosen sub) (others-inside m chosen sub)
+          (without l (thenLoop ds)) second;
+    }

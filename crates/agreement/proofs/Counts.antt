@@ -10,10 +10,10 @@ use lib.Dec.{eqb}
 use lib.IntN.{ℤ, pos}
 use lib.ListN.{length}
 use Rattle.laws.specs.Lists.{filter}
-use Rattle.laws.specs.Keyed.{within, numbersIn, without}
+use Rattle.laws.specs.Keyed.{within, numbersIn, without, filled}
 use Rattle.laws.proofs.Filters.{filter-map, filter-append, map-id, no-cons}
 use Rattle.laws.proofs.Booleans.{by-cases}
-use Rattle.laws.proofs.Groups.{filled, any-filled, any-firsts, numbersIn-at, without-at}
+use Rattle.laws.proofs.Groups.{any-filled, any-firsts, numbersIn-at, without-at}
 use Rattle.laws.specs.Attempt.{gives}
 use Rattle.agreement.specs.Typed.{Triple, row, Loop, iterOf, countsOf, countsAndZeros, semC}
 use Rattle.agreement.specs.Families.{Family, Mask, placed, Represents, Loops, Outside, Agree}

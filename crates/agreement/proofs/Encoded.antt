@@ -7,7 +7,7 @@
 --     added-encoded                         RF, RO
 --     column-encoded, numbers-encoded       a column: of any cells; of numbers
 --     counts-encoded                        RC
---     truths-encoded                        RE
+--     items-encoded, truths-encoded         RE
 --     once-encoded                          RK
 --     steps-encoded                         RX
 use Prim.Native.Nat.{ℕ, suc}
@@ -166,7 +166,7 @@ counts-encoded t =
     (ap length (groupOf-encoded encode 0 iterOf (λ r. refl) i t) ∙ length-map (within iterOf i t) encode))
     (numbersIn iterOf t)
 
-items-encoded : (t : List Triple) → itemsInOrder (map encode t) ≡ T.itemsInOrder t
+pub items-encoded : (t : List Triple) → itemsInOrder (map encode t) ≡ T.itemsInOrder t
 unfolding itemsInOrder T.itemsInOrder rising risingBy
 items-encoded t =
     ap (λ (u : Table). column u 2)

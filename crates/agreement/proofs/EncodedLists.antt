@@ -1,19 +1,16 @@
--- The functions that operators are made of, against a mapping of every member: where two functions correspond through a
--- mapping, so do what they make of the members and of their images.
---     or-left, or-right           one of two that hold
+-- The functions that operators are made of, against a mapping of every member: where two functions correspond through
+-- a mapping, so do what they make of the members and of their images.
 --     mapped, mapped-once         two mappings, one after another
 --     filter-through, any-through, count-through, firsts-through, gather-through      the functions on lists
 --     insert-through, sort-through    the stable sort
 --     each-through                    members that may fail
 use mathlib.Core.Path.{_≡_, refl, sym, ap, ap₂, _∙_}
 use mathlib.Core.List.{List, [], _∷_, _++_, map}
-use mathlib.Core.Bool.{Bool, true, false, not, cond, _||_}
+use mathlib.Core.Bool.{Bool, true, false, not, cond}
 use Rattle.laws.specs.Lists.{filter, any, count, gather, firsts}
 use Rattle.laws.specs.Sorting.{insert, sort}
 use Rattle.laws.specs.Attempt.{Attempt, fails, gives, attempt, each}
-use Rattle.laws.proofs.Booleans.{or-left, or-right}
 
--- one of two that hold
 module _ {A B : Type 0} (f : A → B) where
   map-cond : (b : Bool) (x : A) (xs : List A) → cond b (f x ∷ map f xs) (map f xs) ≡ map f (cond b (x ∷ xs) xs)
   map-cond true x xs = refl

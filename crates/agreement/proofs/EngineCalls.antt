@@ -20,7 +20,7 @@ use Rattle.meaning.specs.Operators.{Table}
 use Rattle.meaning.specs.Run.{Filled}
 use Rattle.meaning.specs.Calls.{gives, refused, Outcome, refusal, lastTable, runOutcome}
 use Rattle.meaning.specs.Calls.{evaluateOutcome}
-use Rattle.theorems.proofs.Counts.{Full}
+use Rattle.theorems.specs.Counts.{Full}
 use Rattle.agreement.specs.Promises.{Refused}
 use Rattle.agreement.proofs.RowWidths.{Wide}
 

@@ -23,7 +23,8 @@ use Rattle.meaning.specs.Calls.{Answer, gives, Outcome, refusal, room, catalogu
 use Rattle.meaning.specs.Calls.{translateCall, lastTable, runCall, evaluateCall}
 use Rattle.laws.proofs.Outcomes.{fails-gives, gives-same, reads-same}
 use Rattle.theorems.proofs.Counted.{evaluate-done, evaluate-failed, running-done, running-failed}
-use Rattle.theorems.proofs.PlanRead.{query-plan-back, Translated, translated}
+use Rattle.theorems.proofs.PlanRead.{query-plan-back, translated}
+use Rattle.theorems.specs.PlanRead.{Translated}
 use Rattle.agreement.specs.Machine as Machine
 use Rattle.agreement.specs.Machine.{SameRun}
 use Rattle.agreement.specs.Promises.{Passed, PlanPassed, means, makes, Refused, Stood, itemsAt, Alike}

@@ -7,15 +7,14 @@
 use Prim.Native.Nat.{ℕ}
 use mathlib.Core.Path.{_≡_, refl, sym, ap, _∙_}
 use mathlib.Core.List.{List, [], _∷_, map, map-map}
-use mathlib.Core.Bool.{true, false}
-use lib.Dec.{eqb, leb}
+use mathlib.Core.Bool.{true}
+use lib.Dec.{eqb}
 use lib.IntN.{ℤ}
 use borrow.Author.Tests.{eqb-true}
-use Rattle.laws.specs.Lists.{gather}
+use Rattle.laws.specs.Lists.{gather, In}
 use Rattle.laws.specs.Keyed.{within}
-use Rattle.laws.proofs.Lists.{all-both, all-kept, all-map, rising-mapped}
-use Rattle.laws.proofs.Filters.{In, all-filter, filter-map, gather-map, no-cons}
-use Rattle.laws.proofs.Sorting.{Sorted}
+use Rattle.laws.proofs.Lists.{all-both, all-kept, all-map}
+use Rattle.laws.proofs.Filters.{all-filter, filter-map, gather-map, no-cons}
 use Rattle.laws.specs.Attempt.{Attempt, gives, attempt, each}
 use Rattle.meaning.specs.Meaning.{Env, bind}
 use Rattle.agreement.specs.Typed.{Triple, Vars, Sem, itemOf, holding, allInOrder, itemsAlone}
@@ -24,7 +23,7 @@ use Rattle.agreement.specs.Families.{Family, Mask, placed, Represents, O
 use Rattle.agreement.specs.Families.{Agrees}
 use Rattle.agreement.proofs.Attempts.{each-fails, each-known, each-map}
 use Rattle.agreement.proofs.Tables.{map-placed}
-use Rattle.agreement.proofs.NewLoops.{looked, looked-all, newMask, newEnv, numbers-rise, loops-new, holds-new}
+use Rattle.agreement.proofs.NewLoops.{looked, looked-all, newMask, newEnv, map-rises, loops-new, holds-new}
 use Rattle.agreement.proofs.NewLoops.{all-ours, all-known, numbers-at}
 use Rattle.agreement.proofs.BringingBack.{back-at}
 
@@ -77,17 +76,11 @@ module _ (e : Env → Attempt (List ℤ)) (m : Mask) (a : List Triple) (s : Fami
       (map-nothing (λ (x : Triple × ℕ). x .0) (within outer i (allInOrder a))
       (numbers-at m a s out rep i ∙ ap (placed i 0) (out i k)))
 
-  numbers-map : Sorted (λ (x y : ℕ × ℕ). leb (x .1) (y .1)) (mapOf (allInOrder a))
-  unfolding mapOf
-  numbers-map =
-      rising-mapped (λ (x y : ℕ × ℕ). leb (y .1) (x .1) ≡ false) (λ r. (r .0 .iter, r .1)) (allInOrder a)
-      (numbers-rise a)
-
   results-represented : (t : List Triple) (s′ : Family) → Represents t s′
       → Represents (broughtBack t (mapOf (allInOrder a))) (results s′)
   unfolding results mapOf within
   results-represented t s′ rep′ i =
-      back-at t s′ rep′ i (mapOf (allInOrder a)) numbers-map
+      back-at t s′ rep′ i (mapOf (allInOrder a)) (map-rises a)
       ∙ ap (placed i 0)
       (ap (gather (λ p. s′ (p .1))) (filter-map (λ p. eqb i (p .0)) (λ r. (r .0 .iter, r .1)) (allInOrder a))
       ∙ gather-map (λ p. s′ (p .1)) (λ r. (r .0 .iter, r .1)) (within outer i (allInOrder a)))

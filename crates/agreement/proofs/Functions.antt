@@ -14,10 +14,9 @@ use mathlib.Core.List.{List, [], _∷_, _++_, map}
 use mathlib.Core.Bool.{true, false}
 use lib.IntN.{ℤ}
 use Rattle.cells.specs.declared.Function.{Function}
-use Rattle.laws.specs.Lists.{gather}
+use Rattle.laws.specs.Lists.{gather, All, In}
 use Rattle.laws.specs.Keyed.{within, joined, unique}
-use Rattle.laws.proofs.Lists.{All}
-use Rattle.laws.proofs.Filters.{In, in-none, tails, no-cons}
+use Rattle.laws.proofs.Filters.{in-none, tails, no-cons}
 use Rattle.laws.proofs.Booleans.{by-cases}
 use Rattle.laws.proofs.Joins.{joined-at}
 use Rattle.laws.proofs.Groups.{unique-true, unique-false}

@@ -12,9 +12,9 @@ use lib.Dec.{ltb, eqb}
 use lib.IntN.{ℤ, pos, negsuc}
 use borrow.Author.Tests.{ltb-true, ltb-false, le-ltb, eq-eqb, ne-eqb}
 use Rattle.cells.specs.Cell.{same, before}
-use Rattle.laws.specs.Keyed.{Key, risingBy}
+use Rattle.laws.specs.Keyed.{Key, risingBy, LawfulKey}
 use Rattle.laws.proofs.Booleans.{by-cases, clash}
-use Rattle.laws.proofs.Sorting.{tied, LawfulKey}
+use Rattle.laws.specs.Sorting.{tied}
 use Rattle.theorems.proofs.Nodes.{before-after}
 use Rattle.agreement.specs.Typed.{byCell}
 

@@ -17,6 +17,8 @@ pub mod Theorem
 pub mod Whole
 pub mod EncodedLists
 pub mod Encoded
+pub mod Untied
+pub mod Distinct
 pub mod Machine
 pub mod MachineOperators
 pub mod MachineRules

@@ -1,9 +1,10 @@
 -- Operators run one after another, and what the tables then hold.
 --     Extends ts us                   us are the tables ts and further ones
 --     Then w ts k n f rows ps r a     operators ps simulate a on any k tables that extend ts and have the rows at n
---     run-append                      operators in two parts
+--     run-append, tieless-append      operators in two parts
 --     has-kept, has-new, has-as       tables that are there stay; the table that is made; its rows as other rows
---     sim-end, sim-then, sim-try, sim-op    no operator; two parts; one operator, failing or not
+--     sim-end, sim-then, sim-try, sim-op    no operator; two parts; one operator, failing or not. What comes next is
+--                                     told which rows were given
 use Prim.Native.Nat.{ℕ, suc, _+_, _≤_, _<_}
 use mathlib.Core.Path.{_≡_, refl, sym, ap, ap₂, _∙_, subst}
 use mathlib.Core.List.{List, [], _∷_, _++_, map, append-nil, append-assoc}
@@ -11,12 +12,14 @@ use native.Mathlib.Omega.{arith}
 use lib.ListN.{length, getD, length-append, List·getD-append}
 use lib.Seq.{getD-at}
 use Rattle.laws.specs.Attempt.{Attempt, fails, gives, attempt}
+use Rattle.laws.proofs.Outcomes.{fails-gives, gives-same}
 use Rattle.meaning.specs.World.{World}
 use Rattle.meaning.specs.Plan.{Op}
 use Rattle.meaning.specs.Operators.{Row, Table, make}
 use Rattle.meaning.specs.Run.{run}
 use Rattle.agreement.specs.Typed.{Triple}
 use Rattle.agreement.specs.Encoded.{encode, Has, HasRows}
+use Rattle.agreement.specs.Tieless.{Apart, Tieless}
 use Rattle.agreement.specs.Machine.{Ran, Simulates}
 use Rattle.agreement.proofs.EncodedLists.{mapped-once}
 
@@ -79,6 +82,13 @@ module _ (w : World) where
       go fails h = refl
       go (gives t) h = h t
 
+  tieless-append : (os ps : List Op) (ts : List Table) → Tieless w os ts
+      → ((us : List Table) → run w os ts ≡ gives us → Tieless w ps us) → Tieless w (os ++ ps) ts
+  unfolding run attempt
+  tieless-append [] ps ts h k = k ts refl
+  tieless-append (o ∷ os) ps ts h k =
+      (h .0, λ t e. tieless-append os ps (ts ++ (t ∷ [])) (h .1 t e) (λ us d. k us (rw e d)))
+
   run-one : (o : Op) (ts : List Table) (t : Table) → make w o ts ≡ gives t
       → run w (o ∷ []) ts ≡ gives (ts ++ (t ∷ []))
   unfolding run attempt
@@ -88,26 +98,29 @@ module _ (w : World) where
   unfolding run attempt
   run-fails o os ts e = rw e
 
-  sim-gives : (os : List Op) (n : ℕ) (ts : List Table) (rows : List Triple) → Ran w os n ts rows
+  sim-gives : (os : List Op) (n : ℕ) (ts : List Table) (rows : List Triple) → Tieless w os ts → Ran w os n ts rows
       → Simulates w os n ts (gives rows)
-  sim-gives os n ts rows r =
+  sim-gives os n ts rows h r =
       record {
         gave = λ us e. subst (Ran w os n ts) (ap given e) r;
         failed = λ e. absurd (subst isFailing (sym e) tt);
+        apart = h;
       }
 
-  sim-fails : (os : List Op) (n : ℕ) (ts : List Table) → run w os ts ≡ fails → Simulates w os n ts fails
-  sim-fails os n ts e = record { gave = λ us d. absurd (subst isFailing d tt); failed = λ d. e }
+  sim-fails : (os : List Op) (n : ℕ) (ts : List Table) → Tieless w os ts → run w os ts ≡ fails
+      → Simulates w os n ts fails
+  sim-fails os n ts h e = record { gave = λ us d. absurd (subst isFailing d tt); failed = λ d. e; apart = h }
 
   -- what stands behind operators that have run
   behind : (os ps : List Op) (n : ℕ) (ts made : List Table) (a : Attempt (List Triple))
-      → run w os ts ≡ gives (ts ++ made) → length made ≡ length os
+      → Tieless w os ts → run w os ts ≡ gives (ts ++ made) → length made ≡ length os
       → Simulates w ps n (ts ++ made) a → Simulates w (os ++ ps) n ts a
   unfolding attempt
-  behind os ps n ts made a e k s =
+  behind os ps n ts made a h e k s =
       record {
         gave = λ rows d. further rows (s .gave rows d);
         failed = λ d. run-append os ps ts ∙ rw e (s .failed d);
+        apart = tieless-append os ps ts h (λ us d. subst (Tieless w ps) (gives-same (sym e ∙ d)) (s .apart));
       }
     where
       further : (rows : List Triple) → Ran w ps n (ts ++ made) rows → Ran w (os ++ ps) n ts rows
@@ -122,7 +135,7 @@ module _ (w : World) where
   pub sim-end : {ts : List Table} {n : ℕ} {rows : List Triple} → HasRows ts n rows → Simulates w [] n ts (gives rows)
   unfolding run
   sim-end {ts} {n} {rows} h =
-      sim-gives [] n ts rows
+      sim-gives [] n ts rows tt
       (record {
         made = [];
         runs = ap gives (sym (append-nil ts));
@@ -137,28 +150,32 @@ module _ (w : World) where
 
   pub sim-then : {os ps : List Op} {n r : ℕ} {ts : List Table} {a : Attempt (List Triple)}
       {k : List Triple → Attempt (List Triple)} {m : ℕ} → length ts ≡ m → Simulates w os n ts a
-      → ((rows : List Triple) → Then ts (m + length os) n encode rows ps r (k rows))
+      → ((rows : List Triple) → a ≡ gives rows → Then ts (m + length os) n encode rows ps r (k rows))
       → Simulates w (os ++ ps) r ts (attempt a k)
   unfolding attempt
   sim-then {os} {ps} {n} {r} {ts} {a = fails} {k} {m} e s h =
-      sim-fails (os ++ ps) r ts (run-append os ps ts ∙ rw (s .failed refl))
+      sim-fails (os ++ ps) r ts
+      (tieless-append os ps ts (s .apart) (λ us d. absurd (fails-gives us (sym (s .failed refl) ∙ d))))
+      (run-append os ps ts ∙ rw (s .failed refl))
   sim-then {os} {ps} {n} {r} {ts} {a = gives rows} {k} {m} e s h =
       let g = s .gave rows refl in
-      behind os ps r ts (g .made) (k rows) (g .runs) (g .long)
-      (h rows (ts ++ g .made) (extends-append ts (g .made))
+      behind os ps r ts (g .made) (k rows) (s .apart) (g .runs) (g .long)
+      (h rows refl (ts ++ g .made) (extends-append ts (g .made))
       (length-append ts (g .made) ∙ ap₂ _+_ e (g .long)) (g .has))
 
   module _ {A : Type 0} {f : A → Row} {o : Op} {ts : List Table} {os : List Op} {r n : ℕ} where
-    pub sim-op : {a : Attempt (List Triple)} {rows : List A} → make w o ts ≡ gives (map f rows) → length ts ≡ n
-        → Then ts (suc n) n f rows os r a → Simulates w (o ∷ os) r ts a
-    sim-op {a} {rows} e l h =
-        behind (o ∷ []) os r ts (map f rows ∷ []) a (run-one o ts (map f rows) e) refl
+    pub sim-op : {a : Attempt (List Triple)} {rows : List A} → make w o ts ≡ gives (map f rows) → Apart o ts
+        → length ts ≡ n → Then ts (suc n) n f rows os r a → Simulates w (o ∷ os) r ts a
+    sim-op {a} {rows} e d l h =
+        behind (o ∷ []) os r ts (map f rows ∷ []) a (d, λ t q. tt) (run-one o ts (map f rows) e) refl
         (h (ts ++ (map f rows ∷ [])) (extends-append ts (map f rows ∷ []))
         (omega (arith, length-append ts (map f rows ∷ []))) (has-new ts n f rows l))
 
     pub sim-try : {k : List A → Attempt (List Triple)} (a : Attempt (List A))
-        → make w o ts ≡ attempt a (λ t. gives (map f t)) → length ts ≡ n
-        → ((rows : List A) → Then ts (suc n) n f rows os r (k rows)) → Simulates w (o ∷ os) r ts (attempt a k)
+        → make w o ts ≡ attempt a (λ t. gives (map f t)) → Apart o ts → length ts ≡ n
+        → ((rows : List A) → a ≡ gives rows → Then ts (suc n) n f rows os r (k rows))
+        → Simulates w (o ∷ os) r ts (attempt a k)
     unfolding attempt
-    sim-try fails e l h = sim-fails (o ∷ os) r ts (run-fails o os ts e)
-    sim-try (gives rows) e l h = sim-op e l (h rows)
+    sim-try fails e d l h =
+        sim-fails (o ∷ os) r ts (d, λ t q. absurd (fails-gives t (sym e ∙ q))) (run-fails o os ts e)
+    sim-try (gives rows) e d l h = sim-op e d l (h rows refl)

@@ -10,8 +10,10 @@ use Rattle.meaning.specs.World.{World, worldOf}
 use Rattle.meaning.specs.Query.{Query, Read, queryRead}
 use Rattle.meaning.specs.Meaning.{eval}
 use Rattle.meaning.specs.Operators.{Table, column}
-use Rattle.theorems.proofs.Closed.{Closed, accepted}
-use Rattle.theorems.proofs.Nodes.{Lawful, lawful}
+use Rattle.theorems.proofs.Closed.{accepted}
+use Rattle.theorems.specs.Closed.{Closed}
+use Rattle.theorems.proofs.Nodes.{lawful}
+use Rattle.theorems.specs.Nodes.{Lawful}
 use Rattle.agreement.specs.Typed.{itemOf, semPlan}
 use Rattle.agreement.specs.Families as F
 use Rattle.agreement.specs.Families.{SameItems, placed}
@@ -27,13 +29,13 @@ same-run w laws q closed = go (same-items w laws q)
   where
     go : SameItems (semPlan w q) (eval w (λ v. []) q) → SameRun w q
     go (F.bothGive xs made means) =
-        let r = plan-gives w q closed (placed 1 0 xs) made in
+        let r = plan-gives w laws q closed (placed 1 0 xs) made in
         bothGive xs (r .tables) (r .runs)
         (ap (λ (t : Table). column t 2) (r .last)
         ∙ column-encoded encode 2 itemOf (λ t. refl) (placed 1 0 xs)
         ∙ map-placed 1 0 xs)
         means
-    go (F.bothFail broken bad) = bothFail (plan-fails w q closed broken) bad
+    go (F.bothFail broken bad) = bothFail (plan-fails w laws q closed broken) bad
 
 pub same-run-read : (c : Catalogue) (bs : List ℕ) (r : Read) → queryRead bs ≡ reads r → SameRun (worldOf c) (r .tree)
 same-run-read c bs r e = same-run (worldOf c) (lawful c) (r .tree) (accepted bs r e .closed)

@@ -1,5 +1,5 @@
--- The rules with a loop of their own, QF and QI, against the typed rules: their parts are run under that loop, with the
--- variables that are free there lifted into it.
+-- The rules with a loop of their own, QF and QI, against the typed rules: their parts are run under that loop, with
+-- the variables that are free there lifted into it.
 --     Small q               the free variables of q are 0 to 7
 --     sim-F, sim-I          the operators of QF after its first operand, and of QI after its condition
 use Prim.Native.Nat.{ℕ, _+_, _<_}
@@ -7,7 +7,7 @@ use mathlib.Core.Path.{_≡_, refl, sym, _∙_}
 use mathlib.Core.List.{List, [], _∷_, _++_}
 use mathlib.Core.Bool.{Bool, true, false, not, _&&_}
 use native.Mathlib.Omega.{arith}
-use lib.Dec.{eqb}
+use lib.Dec.{eqb, leb}
 use lib.ListN.{length}
 use Rattle.cells.specs.Cell.{same, trueCell, truthCell}
 use Rattle.laws.specs.Lists.{filter, any, below}
@@ -15,6 +15,9 @@ use Rattle.laws.specs.Keyed.{risingBy, without}
 use Rattle.laws.proofs.Booleans.{by-cases}
 use Rattle.laws.specs.Attempt.{Attempt, gives, attempt}
 use Rattle.meaning.specs.World.{World}
+use Rattle.meaning.specs.Meaning.{Env}
+use Rattle.theorems.specs.Nodes.{Lawful}
+use Rattle.laws.specs.Sorting.{Sorted}
 use Rattle.meaning.specs.Query.{Query, free}
 use Rattle.meaning.specs.Plan.{Op, RU}
 use Rattle.meaning.specs.Operators.{Table, rising, inGroup}
@@ -24,7 +27,12 @@ use Rattle.agreement.specs.Typed.{Triple, row, Loop, Vars, iterOf, place
 use Rattle.agreement.specs.Typed.{allInOrder, itemsAlone, newLoop, mapOf, liftedBy, outerOf, outerInOrder}
 use Rattle.agreement.specs.Typed.{broughtBack, holding, sem, semF, truthsOf, thenLoop, keptIn, branches, semI}
 use Rattle.agreement.specs.Encoded.{encode, encodeNumber, encodeNumbers, HasRows, HasLoop, HasPairs}
+use Rattle.agreement.specs.Families.{Mask, Loops, Holds}
 use Rattle.agreement.specs.Machine.{Simulates, HasFree, Faithful}
+use Rattle.agreement.proofs.Distinct.{Shown, represented, distinct-rows, distinct-outer}
+use Rattle.agreement.proofs.NewLoops.{newMask, newEnv, loops-new, holds-new, map-rises}
+use Rattle.agreement.proofs.Choices.{parted}
+use Rattle.agreement.proofs.Theorem.{agreement}
 use Rattle.agreement.proofs.Machine.{Then, Extends, extends-then, has-kept, has-as, sim-end, sim-then}
 use Rattle.agreement.proofs.MachineOperators.{attaching, projecting, uniting, excluding, selecting, joining}
 use Rattle.agreement.proofs.MachineOperators.{numbering, judging}
@@ -45,14 +53,15 @@ lifted-too : (p : ℕ → Bool) (v : ℕ) → v < 8 → p v ≡ true → Among v
 lifted-too p v h e = any-kept p v (below 8) ∙ rw e (any-below v 8 h)
 
 module _ (w : World) {ts : List Table} (n : ℕ) (here : length ts ≡ n) where
-  sim-tailF : {b m : ℕ} {y : List Triple} {x : List (ℕ × ℕ)} → HasRows ts b y → HasPairs ts m x
+  sim-tailF : {b m : ℕ} {y : List Triple} {x : List (ℕ × ℕ)} {o : Mask} → Shown o y
+      → Sorted (λ (p q : ℕ × ℕ). leb (p .1) (q .1)) x → HasRows ts b y → HasPairs ts m x
       → Simulates w (tailF n b m .ops) (tailF n b m .result) ts (gives (broughtBack y x))
   unfolding tailF broughtBack outerInOrder outerOf inGroup rising risingBy same
-  sim-tailF h i =
+  sim-tailF {x = x} f g h i =
       joining w here iterOf (λ s. s .1) (λ r. refl) (λ s. refl) h i (λ us p k j.
       numbering w (omega arith) (grouped (λ r. r .1 .0))
       (byNumber (λ r. r .1 .0) ∷ byNumber (λ r. r .0 .iter) ∷ byNumber (λ r. r .0 .place) ∷ [])
-      (λ r s. refl) (λ r s. refl) j (λ us p k j.
+      (λ r s. refl) (λ r s. refl) j (distinct-outer x f g) (λ us p k j.
       projecting w (omega arith) j (λ us p k j.
       sim-end w (has-as encode (λ r. row (r .0 .1 .0) (r .1) (r .0 .0 .item)) (λ r. refl) j))))
 
@@ -69,15 +78,16 @@ free-F ts v b e own vars m k s h i u f =
 
 module _ (w : World) {ts : List Table} (n : ℕ) (here : length ts ≡ n) where
   -- the variable, the new loop, the map
-  sim-headF : {a r : ℕ} {x : List Triple} {os : List Op} {s : Attempt (List Triple)} → HasRows ts a x
+  sim-headF : {a r : ℕ} {x : List Triple} {os : List Op} {s : Attempt (List Triple)} {m : Mask} → Shown m x
+      → HasRows ts a x
       → ((us : List Table) → Extends ts us → length us ≡ n + 5 → HasRows us (n + 2) (itemsAlone (allInOrder x))
       → HasLoop us (n + 3) (newLoop (allInOrder x)) → HasPairs us (n + 4) (mapOf (allInOrder x))
       → Simulates w os r us s)
       → Simulates w (headF n a ++ os) r ts s
   unfolding headF allInOrder itemsAlone newLoop mapOf inGroup rising risingBy
-  sim-headF h s =
+  sim-headF f h s =
       numbering w here together (byNumber iterOf ∷ byNumber placeOf ∷ [])
-      (λ r s. refl) (λ r s. refl) h (λ u₁ p₁ k₁ j₁.
+      (λ r s. refl) (λ r s. refl) h (distinct-rows f) (λ u₁ p₁ k₁ j₁.
       attaching w (omega arith) j₁ (λ u₂ p₂ k₂ j₂.
       projecting w {n = n + 2} (omega arith) j₂ (λ u₃ p₃ k₃ j₃.
       projecting w {n = n + 3} (omega arith) (has-kept p₃ (has-kept p₂ j₁)) (λ u₄ p₄ k₄ j₄.
@@ -87,7 +97,8 @@ module _ (w : World) {ts : List Table} (n : ℕ) (here : length ts ≡ n) where
       (has-as encodeNumber (λ r. r .1) (λ r. refl) (has-kept p₅ j₄))
       (has-as encodeNumbers (λ r. (r .0 .iter, r .1)) (λ r. refl) j₅))))))
 
-  pub sim-F : {a : ℕ} {x : List Triple} (v : ℕ) (b : Query) (e : Tables) (vars : Vars) → Faithful w b → Small b
+  pub sim-F : {a : ℕ} {x : List Triple} {m : Mask} (v : ℕ) (b : Query) (e : Tables) (vars : Vars) (ρ : ℕ → Env)
+      → Lawful w → Shown m x → Holds m ρ vars → Faithful w b → Small b
       → HasRows ts a x → ((u : ℕ) → not (eqb u v) && free u b ≡ true → HasRows ts (e u) (vars u))
       → let us = othersIn v b in
       let lift = lifts e (n + 4) (4 ∷ 1 ∷ 2 ∷ []) (n + 5) us in
@@ -96,18 +107,23 @@ module _ (w : World) {ts : List Table} (n : ℕ) (here : length ts ≡ n) where
       let z = tailF (next k y) (y .result) (n + 4) in
       Simulates w (headF n a ++ (lift ++ (y .ops ++ z .ops))) (z .result) ts (semF v (sem w b) x vars)
   unfolding next semF othersIn liftedBy
-  sim-F {x} v b e vars faithful small h i =
+  sim-F {x} {m} v b e vars ρ laws shown holds faithful small h i =
       let others : Vars = λ u. liftedBy (mapOf (allInOrder x)) (vars u) in
-      sim-headF h (λ u₁ p₁ k₁ own loop pairs.
+      let new : Vars = holding v (itemsAlone (allInOrder x)) others in
+      let env = newEnv v ρ (allInOrder x) in
+      let held = holds-new m x (shown .family) (shown .outside) (shown .rows) v ρ vars holds in
+      sim-headF shown h (λ u₁ p₁ k₁ own loop pairs.
       sim-lifts w encodeNumbers (λ s. s .0) (λ r. row (r .1 .1) (r .0 .place) (r .0 .item)) (4 ∷ 1 ∷ 2 ∷ [])
       (λ s. refl) (λ r. refl) e (n + 4) (mapOf (allInOrder x)) vars (othersIn v b) (n + 5) k₁ pairs
       (λ u a. has-kept p₁ (i u (passes (λ u. not (eqb u v) && free u b) u a))) (λ u₂ p₂ k₂ j₂.
       sim-then w k₂
-      (faithful _ (n + 3) _ u₂ (newLoop (allInOrder x)) (holding v (itemsAlone (allInOrder x)) others) k₂
+      (faithful _ (n + 3) _ u₂ (newLoop (allInOrder x)) new (newMask (allInOrder x)) env (loops-new x) held k₂
       (has-kept p₂ loop)
       (free-F u₂ v b e (itemsAlone (allInOrder x)) others (n + 2) (n + 5) small (has-kept p₂ own) j₂))
-      (λ y u₃ p₃ k₃ j₃.
-      sim-tailF w _ k₃ j₃ (has-kept (extends-then p₂ p₃) pairs))))
+      (λ y d u₃ p₃ k₃ j₃.
+      sim-tailF w _ k₃
+      (represented (agreement w laws b env (newLoop (allInOrder x)) (newMask (allInOrder x)) new (loops-new x) held) d)
+      (map-rises x) j₃ (has-kept (extends-then p₂ p₃) pairs))))
 
 -- the selected rows are those whose truth is true
 truth-true : (b : Bool) → same (truthCell b) trueCell ≡ b
@@ -118,38 +134,42 @@ truth-true false = refl
 module _ (w : World) {ts : List Table} (n : ℕ) (here : length ts ≡ n) where
   -- a branch: its free variables are kept in its loop, then it is run under that loop
   sim-branch : {os : List Op} {r m : ℕ} {loop : Loop} {k : List Triple → Attempt (List Triple)}
-      (q : Query) (e : Tables) (vars : Vars) → Faithful w q → Small q → HasLoop ts m loop → HasFree ts q e vars
+      (q : Query) (e : Tables) (vars : Vars) (part : Mask) (ρ : ℕ → Env) → Loops loop part
+      → Holds part ρ (λ u. keptIn loop (vars u)) → Faithful w q → Small q → HasLoop ts m loop → HasFree ts q e vars
       → let lift = lifts e m (0 ∷ 1 ∷ 2 ∷ []) n (freeIn q) in
       let y = tr q (n + length lift) m (lifted e n (freeIn q)) in
       ((rows : List Triple) → Then w ts (next (n + length lift) y) (y .result) encode rows os r (k rows))
       → Simulates w (lift ++ (y .ops ++ os)) r ts (attempt (sem w q loop (λ u. keptIn loop (vars u))) k)
   unfolding next freeIn keptIn
-  sim-branch {m} {loop} q e vars faithful small h i s =
+  sim-branch {m} {loop} q e vars part ρ loops holds faithful small h i s =
       sim-lifts w encodeNumber (λ i. i) (λ r. r .0) (0 ∷ 1 ∷ 2 ∷ []) (λ i. refl) (λ r. refl)
       e m loop vars (freeIn q) n here h (λ u a. i u (passes (λ v. free v q) u a)) (λ us p l j.
       sim-then w l
-      (faithful _ m _ us loop (λ u. keptIn loop (vars u)) l (has-kept p h)
-      (λ u f. j u (lifted-too (λ v. free v q) u (small u f) f))) (λ rows vs q l j.
+      (faithful _ m _ us loop (λ u. keptIn loop (vars u)) part ρ loops holds l (has-kept p h)
+      (λ u f. j u (lifted-too (λ v. free v q) u (small u f) f))) (λ rows d vs q l j.
       s rows vs (extends-then p q) l j))
 
 module _ (w : World) {ts : List Table} (n : ℕ) (here : length ts ≡ n) where
   -- the two loops
-  sim-headI : {c l r : ℕ} {x : List Triple} {loop : Loop} {os : List Op} {s : Loop → Attempt (List Triple)}
-      → HasLoop ts l loop → HasRows ts c x
-      → ((chosen : Loop) (us : List Table) → Extends ts us → length us ≡ n + 4 → HasLoop us (n + 2) chosen
-      → HasLoop us (n + 3) (without loop chosen) → Simulates w os r us (s chosen))
-      → Simulates w (headI n l c ++ os) r ts (attempt (truthsOf w x) (λ t. s (thenLoop t)))
+  sim-headI : {c l r : ℕ} {x : List Triple} {loop : Loop} {os : List Op} {m : Mask}
+      {k : List (ℕ × Bool) → Attempt (List Triple)}
+      → Shown m x → HasLoop ts l loop → HasRows ts c x
+      → ((t : List (ℕ × Bool)) → truthsOf w x ≡ gives t → (us : List Table) → Extends ts us → length us ≡ n + 4
+      → HasLoop us (n + 2) (thenLoop t) → HasLoop us (n + 3) (without loop (thenLoop t))
+      → Simulates w os r us (k t))
+      → Simulates w (headI n l c ++ os) r ts (attempt (truthsOf w x) k)
   unfolding headI thenLoop
-  sim-headI h i s =
-      judging w here i (λ t u₁ p₁ k₁ j₁.
+  sim-headI f h i s =
+      judging w here i (distinct-rows f) (λ t d u₁ p₁ k₁ j₁.
       selecting w (omega arith) (λ r. r .1) (λ r. truth-true (r .1)) j₁ (λ u₂ p₂ k₂ j₂.
       projecting w (omega arith) j₂ (λ u₃ p₃ k₃ j₃.
       let chosen = has-as encodeNumber (λ r. r .0) (λ r. refl) j₃ in
       let earlier = extends-then p₁ (extends-then p₂ p₃) in
       excluding w {n = n + 3} (omega arith) (has-kept earlier h) chosen (λ u₄ p₄ k₄ j₄.
-      s (thenLoop t) u₄ (extends-then earlier p₄) (omega arith) (has-kept p₄ chosen) j₄))))
+      s t d u₄ (extends-then earlier p₄) (omega arith) (has-kept p₄ chosen) j₄))))
 
-  pub sim-I : {c l : ℕ} {x : List Triple} {loop : Loop} (a b : Query) (e : Tables) (vars : Vars)
+  pub sim-I : {c l : ℕ} {x : List Triple} {loop : Loop} {m : Mask} (a b : Query) (e : Tables) (vars : Vars)
+      (ρ : ℕ → Env) → Lawful w → Shown m x → Loops loop m → Holds m ρ vars
       → Faithful w a → Faithful w b → Small a → Small b → HasLoop ts l loop → HasRows ts c x
       → HasFree ts a e vars → HasFree ts b e vars
       → let liftA = lifts e (n + 2) (0 ∷ 1 ∷ 2 ∷ []) (n + 4) (freeIn a) in
@@ -162,9 +182,12 @@ module _ (w : World) {ts : List Table} (n : ℕ) (here : length ts ≡ n) where
       Simulates w (headI n l c ++ (liftA ++ (y .ops ++ (liftB ++ (z .ops ++ (RU (y .result) (z .result) ∷ []))))))
       (next k z) ts (semI w (sem w a) (sem w b) loop vars x)
   unfolding semI branches
-  sim-I {loop} a b e vars faithfulA faithfulB smallA smallB h i f g =
-      sim-headI h i (λ chosen u₁ p₁ k₁ j₁ others.
-      sim-branch w (n + 4) k₁ a e vars faithfulA smallA j₁ (λ u d. has-kept p₁ (f u d)) (λ y u₂ p₂ k₂ j₂.
-      sim-branch w _ k₂ b e vars faithfulB smallB (has-kept p₂ others)
+  sim-I {loop} a b e vars ρ laws shown loops holds faithfulA faithfulB smallA smallB h i f g =
+      sim-headI shown h i (λ t d u₁ p₁ k₁ j₁ others.
+      let parts = parted w laws shown ρ loop vars loops holds t d in
+      sim-branch w (n + 4) k₁ a e vars (parts .chosen) ρ (parts .chosen-loop) (parts .chosen-holds)
+      faithfulA smallA j₁ (λ u d. has-kept p₁ (f u d)) (λ y u₂ p₂ k₂ j₂.
+      sim-branch w _ k₂ b e vars (parts .rest) ρ (parts .rest-loop) (parts .rest-holds)
+      faithfulB smallB (has-kept p₂ others)
       (λ u d. has-kept (extends-then p₁ p₂) (g u d)) (λ z u₃ p₃ k₃ j₃.
       uniting w k₃ (has-kept p₃ j₂) j₃ (λ u₄ p₄ k₄ j₄. sim-end w j₄))))

@@ -1,7 +1,8 @@
 -- The operators of a query simulate the typed rules, and the whole plan does.
---     simulates            the operators of a closed query
---     run-gives, run-fails   .. where the typed rules give a table; where they fail
+--     shown                what an operand gives is shown
+--     simulates            the operators of a closed query, in a lawful world
 --     plan-gives, plan-fails     the whole plan against the typed plan
+--     plan-tieless         no operator of a plan meets a tie
 use Prim.Native.Nat.{ℕ, zero, suc, _+_}
 use mathlib.Core.Path.{_≡_, refl, _∙_}
 use mathlib.Core.List.{List, [], _∷_}
@@ -19,10 +20,19 @@ use Rattle.meaning.specs.Operators.{Table, make}
 use Rattle.meaning.specs.Run.{run}
 use Rattle.meaning.specs.Calls.{lastTable}
 use Rattle.meaning.specs.Translation.{Tables, next, hold, then, tr, tailLast, plan}
-use Rattle.theorems.proofs.Closed.{Closed, free-bound}
+use Rattle.meaning.specs.Meaning.{Env, bind}
+use Rattle.theorems.proofs.Closed.{free-bound}
+use Rattle.theorems.specs.Closed.{Closed}
+use Rattle.theorems.specs.Nodes.{Lawful}
 use Rattle.agreement.specs.Typed.{Triple, Loop, Vars, holding, sem, semPlan}
-use Rattle.agreement.specs.Encoded.{encodeNumber, HasRows, HasLoop}
-use Rattle.agreement.specs.Machine.{Ran, Simulates, HasFree, Faithful, Ends}
+use Rattle.agreement.specs.Encoded.{encodeNumber, HasRows}
+use Rattle.agreement.specs.Families.{Mask, Loops, Holds}
+use Rattle.agreement.specs.Tieless.{Tieless}
+use Rattle.agreement.specs.Machine.{Simulates, HasFree, Faithful, Ends}
+use Rattle.agreement.proofs.Distinct.{Shown, represented}
+use Rattle.agreement.proofs.Sequences.{holds-bind}
+use Rattle.agreement.proofs.Theorem.{agreement}
+use Rattle.agreement.proofs.Whole.{first, loops-first, holds-nothing}
 use Rattle.agreement.proofs.Machine.{has-kept, sim-end, sim-then, sim-op}
 use Rattle.agreement.proofs.MachineRules.{sim-L, sim-E, sim-R, sim-S, sim-O, sim-C, sim-D, sim-X, sim-last}
 use Rattle.agreement.proofs.MachineLoops.{Small, sim-F, sim-I}
@@ -47,53 +57,63 @@ free-bind ts e vars q v t x h i u f = by-cases (eqb u v) (λ k. rw k h) (λ k. r
 small : (q : Query) (vs : List ℕ) → Closed q vs → Small q
 small q vs c v f = free-bound q vs v c f .1
 
-pub simulates : (w : World) (q : Query) (vs : List ℕ) → Closed q vs → Faithful w q
-unfolding tr then next sem free
-simulates w (QL at z) vs c n l e ts loop vars here h f = sim-L w n here z h
-simulates w (QE at) vs c n l e ts loop vars here h f = sim-E w n here h
-simulates w (QR at k) vs c n l e ts loop vars here h f = sim-R w n here k h
-simulates w (QV at v) vs c n l e ts loop vars here h f = sim-end w (f v (eq-eqb v v refl))
-simulates w (QS at a b) vs c n l e ts loop vars here h f =
-    sim-then w here (simulates w a vs (c .0) n l e ts loop vars here h (free-left _ _ f)) (λ x us p k i.
-    sim-then w k
-    (simulates w b vs (c .1) _ l e us loop vars k (has-kept p h)
-    (λ v g. has-kept p (free-right (λ u. free u a) _ f v g)))
-    (λ y us q k j. sim-S w _ k (has-kept q i) j))
-simulates w (QT at v a b) vs c n l e ts loop vars here h f =
-    sim-then w here (simulates w a vs (c .1) n l e ts loop vars here h (free-left _ _ f)) (λ x us p k i.
-    simulates w b (v ∷ vs) (c .2) _ l (hold v _ e) us loop (holding v x vars) k (has-kept p h)
-    (free-bind us e vars b v _ x i (λ u g. has-kept p (free-right (λ u. free u a) _ f u g))))
-simulates w (QF at v a b) vs c n l e ts loop vars here h f =
-    sim-then w here (simulates w a vs (c .1) n l e ts loop vars here h (free-left _ _ f)) (λ x us p k i.
-    sim-F w _ k v b e vars (simulates w b (v ∷ vs) (c .2)) (small b (v ∷ vs) (c .2)) i
-    (λ u g. has-kept p (free-right (λ u. free u a) _ f u g)))
-simulates w (QI at q a b) vs c n l e ts loop vars here h f =
-    let g = free-left (λ v. free v q || free v a) (λ v. free v b) f in
-    sim-then w here (simulates w q vs (c .0) n l e ts loop vars here h (free-left _ (λ v. free v a) g)) (λ x us p k i.
-    sim-I w _ k a b e vars (simulates w a vs (c .1)) (simulates w b vs (c .2)) (small a vs (c .1)) (small b vs (c .2))
-    (has-kept p h) i (λ u t. has-kept p (free-right (λ v. free v q) _ g u t))
-    (λ u t. has-kept p (free-right (λ v. free v q || free v a) _ f u t)))
-simulates w (QO at g a b) vs c n l e ts loop vars here h f =
-    sim-then w here (simulates w a vs (c .0) n l e ts loop vars here h (free-left _ _ f)) (λ x us p k i.
-    sim-then w k
-    (simulates w b vs (c .1) _ l e us loop vars k (has-kept p h)
-    (λ v g. has-kept p (free-right (λ u. free u a) _ f v g)))
-    (λ y us q k j. sim-O w _ k g (has-kept q i) j))
-simulates w (QC at a) vs c n l e ts loop vars here h f =
-    sim-then w here (simulates w a vs c n l e ts loop vars here h f) (λ x us p k i. sim-C w _ k (has-kept p h) i)
-simulates w (QD at a) vs c n l e ts loop vars here h f =
-    sim-then w here (simulates w a vs c n l e ts loop vars here h f) (λ x us p k i. sim-D w _ k i)
-simulates w (QX at axis test a) vs c n l e ts loop vars here h f =
-    sim-then w here (simulates w a vs c n l e ts loop vars here h f) (λ x us p k i. sim-X w _ k axis test i)
+module _ (w : World) (laws : Lawful w) where
+  -- what an operand gives represents what it means
+  shown : (q : Query) (ρ : ℕ → Env) (loop : Loop) (m : Mask) (vars : Vars) {x : List Triple}
+      → Loops loop m → Holds m ρ vars → sem w q loop vars ≡ gives x → Shown m x
+  shown q ρ loop m vars loops holds d = represented (agreement w laws q ρ loop m vars loops holds) d
 
--- the same in two parts
-module _ (w : World) (q : Query) (vs : List ℕ) (closed : Closed q vs) (n l : ℕ) (e : Tables) (ts : List Table)
-    (loop : Loop) (vars : Vars) (here : length ts ≡ n) (h : HasLoop ts l loop) (f : HasFree ts q e vars) where
-  pub run-gives : (t : List Triple) → sem w q loop vars ≡ gives t → Ran w (tr q n l e .ops) (tr q n l e .result) ts t
-  run-gives = simulates w q vs closed n l e ts loop vars here h f .gave
-
-  pub run-fails : sem w q loop vars ≡ fails → run w (tr q n l e .ops) ts ≡ fails
-  run-fails = simulates w q vs closed n l e ts loop vars here h f .failed
+  pub simulates : (q : Query) (vs : List ℕ) → Closed q vs → Faithful w q
+  unfolding tr then next sem free
+  simulates (QL at z) vs c n l e ts loop vars m ρ loops holds here h f = sim-L w n here z h
+  simulates (QE at) vs c n l e ts loop vars m ρ loops holds here h f = sim-E w n here h
+  simulates (QR at k) vs c n l e ts loop vars m ρ loops holds here h f = sim-R w n here k h
+  simulates (QV at v) vs c n l e ts loop vars m ρ loops holds here h f = sim-end w (f v (eq-eqb v v refl))
+  simulates (QS at a b) vs c n l e ts loop vars m ρ loops holds here h f =
+      sim-then w here (simulates a vs (c .0) n l e ts loop vars m ρ loops holds here h (free-left _ _ f))
+      (λ x d us p k i.
+      sim-then w k
+      (simulates b vs (c .1) _ l e us loop vars m ρ loops holds k (has-kept p h)
+      (λ v g. has-kept p (free-right (λ u. free u a) _ f v g)))
+      (λ y g us q k j.
+      sim-S w _ k (shown a ρ loop m vars loops holds d) (shown b ρ loop m vars loops holds g) (has-kept q i) j))
+  simulates (QT at v a b) vs c n l e ts loop vars m ρ loops holds here h f =
+      sim-then w here (simulates a vs (c .1) n l e ts loop vars m ρ loops holds here h (free-left _ _ f))
+      (λ x d us p k i.
+      let s = shown a ρ loop m vars loops holds d in
+      simulates b (v ∷ vs) (c .2) _ l (hold v _ e) us loop (holding v x vars) m (λ i. bind v (s .family i) (ρ i)) loops
+      (holds-bind m ρ vars holds v x (s .family) (s .outside) (s .rows)) k (has-kept p h)
+      (free-bind us e vars b v _ x i (λ u g. has-kept p (free-right (λ u. free u a) _ f u g))))
+  simulates (QF at v a b) vs c n l e ts loop vars m ρ loops holds here h f =
+      sim-then w here (simulates a vs (c .1) n l e ts loop vars m ρ loops holds here h (free-left _ _ f))
+      (λ x d us p k i.
+      sim-F w _ k v b e vars ρ laws (shown a ρ loop m vars loops holds d) holds
+      (simulates b (v ∷ vs) (c .2)) (small b (v ∷ vs) (c .2)) i
+      (λ u g. has-kept p (free-right (λ u. free u a) _ f u g)))
+  simulates (QI at q a b) vs c n l e ts loop vars m ρ loops holds here h f =
+      let g = free-left (λ v. free v q || free v a) (λ v. free v b) f in
+      sim-then w here
+      (simulates q vs (c .0) n l e ts loop vars m ρ loops holds here h (free-left _ (λ v. free v a) g))
+      (λ x d us p k i.
+      sim-I w _ k a b e vars ρ laws (shown q ρ loop m vars loops holds d) loops holds
+      (simulates a vs (c .1)) (simulates b vs (c .2)) (small a vs (c .1)) (small b vs (c .2))
+      (has-kept p h) i (λ u t. has-kept p (free-right (λ v. free v q) _ g u t))
+      (λ u t. has-kept p (free-right (λ v. free v q || free v a) _ f u t)))
+  simulates (QO at g a b) vs c n l e ts loop vars m ρ loops holds here h f =
+      sim-then w here (simulates a vs (c .0) n l e ts loop vars m ρ loops holds here h (free-left _ _ f))
+      (λ x d us p k i.
+      sim-then w k
+      (simulates b vs (c .1) _ l e us loop vars m ρ loops holds k (has-kept p h)
+      (λ v g. has-kept p (free-right (λ u. free u a) _ f v g)))
+      (λ y d us q k j. sim-O w _ k g (has-kept q i) j))
+  simulates (QC at a) vs c n l e ts loop vars m ρ loops holds here h f =
+      sim-then w here (simulates a vs c n l e ts loop vars m ρ loops holds here h f)
+      (λ x d us p k i. sim-C w _ k (has-kept p h) i)
+  simulates (QD at a) vs c n l e ts loop vars m ρ loops holds here h f =
+      sim-then w here (simulates a vs c n l e ts loop vars m ρ loops holds here h f) (λ x d us p k i. sim-D w _ k i)
+  simulates (QX at axis test a) vs c n l e ts loop vars m ρ loops holds here h f =
+      sim-then w here (simulates a vs c n l e ts loop vars m ρ loops holds here h f)
+      (λ x d us p k i. sim-X w _ k axis test laws (shown a ρ loop m vars loops holds d) i)
 
 -- The whole plan
 
@@ -108,23 +128,25 @@ last-table (t ∷ u ∷ ts) (suc n) e = last-table (u ∷ ts) n (omega arith)
 resultOf : Query → ℕ
 resultOf q = next 1 (tr q 1 0 (λ v. 0)) + 1
 
-plan-simulates : (w : World) (q : Query) → Closed q [] → Simulates w (plan q) (resultOf q) [] (semPlan w q)
+plan-simulates : (w : World) → Lawful w → (q : Query) → Closed q []
+    → Simulates w (plan q) (resultOf q) [] (semPlan w q)
 unfolding plan resultOf semPlan next make bound any
-plan-simulates w q c =
-    sim-op w {f = encodeNumber} {n = 0} {rows = 1 ∷ []} refl refl (λ us p k j.
+plan-simulates w laws q c =
+    sim-op w {f = encodeNumber} {n = 0} {rows = 1 ∷ []} refl tt refl (λ us p k j.
     sim-then w k
-    (simulates w q [] c 1 0 (λ v. 0) us (1 ∷ []) (λ v. []) k j
+    (simulates w laws q [] c 1 0 (λ v. 0) us (1 ∷ []) (λ v. []) first (λ i v. []) loops-first holds-nothing k j
     (λ v f. absurd (false≢true (free-bound q [] v c f .0))))
-    (λ t us p k j. sim-last w _ k j))
+    (λ t d us p k j.
+    sim-last w _ k (shown w laws q (λ i v. []) (1 ∷ []) first (λ v. []) loops-first holds-nothing d) j))
 
 plan-length : (q : Query) → length (plan q) ≡ suc (resultOf q)
 unfolding plan resultOf next tailLast
 plan-length q = let x = tr q 1 0 (λ v. 0) in omega (arith, length-append (x .ops) (tailLast (next 1 x) (x .result)))
 
-module _ (w : World) (q : Query) (closed : Closed q []) where
+module _ (w : World) (laws : Lawful w) (q : Query) (closed : Closed q []) where
   pub plan-gives : (t : List Triple) → semPlan w q ≡ gives t → Ends w q t
   plan-gives t e =
-      let r = plan-simulates w q closed .gave t e in
+      let r = plan-simulates w laws q closed .gave t e in
       record {
         tables = r .made;
         runs = r .runs;
@@ -132,4 +154,7 @@ module _ (w : World) (q : Query) (closed : Closed q []) where
       }
 
   pub plan-fails : semPlan w q ≡ fails → run w (plan q) [] ≡ fails
-  plan-fails e = plan-simulates w q closed .failed e
+  plan-fails e = plan-simulates w laws q closed .failed e
+
+  pub plan-tieless : Tieless w (plan q) []
+  plan-tieless = plan-simulates w laws q closed .apart

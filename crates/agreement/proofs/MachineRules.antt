@@ -1,5 +1,6 @@
 -- The operators that stand after a rule's operands, against the typed rules: QL QE QR QS QO QC QD QX; last numbering.
---     sim-L .. sim-X      on tables that hold the operands' rows, and the loop where the rule looks at it
+--     sim-L .. sim-X      on tables that hold the operands' rows, and the loop where the rule looks at it; a rule that
+--                         numbers rows is told that its operands are shown
 --     sim-last            the last numbering
 use Prim.Native.Nat.{ℕ, _+_}
 use mathlib.Core.Path.{_≡_, refl}
@@ -14,6 +15,7 @@ use Rattle.cells.specs.declared.Test.{Test}
 use Rattle.laws.specs.Keyed.{risingBy}
 use Rattle.laws.specs.Attempt.{gives}
 use Rattle.meaning.specs.World.{World}
+use Rattle.theorems.specs.Nodes.{Lawful}
 use Rattle.meaning.specs.Operators.{Table, rising, inGroup}
 use Rattle.meaning.specs.Translation.{ruleL, ruleE, ruleR, tailS, tailO, tailC, tailD, tailX, tailLast}
 use Rattle.agreement.specs.Typed.{Triple, row, Loop, iterOf, placeOf, grouped, byNumber, byCell, semL, semE}
@@ -21,7 +23,10 @@ use Rattle.agreement.specs.Typed.{semR, semS, semO, semC, semD, semX, se
 use Rattle.agreement.specs.Typed.{sidesInOrder, facing, countsAndZeros, contexts, nodesInOrder}
 use Rattle.agreement.specs.Encoded.{encode, encodeNumber, encodeCell, encodePair, encodeNumbers, encodeItem}
 use Rattle.agreement.specs.Encoded.{HasRows, HasLoop}
+use Rattle.agreement.specs.Families.{Mask}
 use Rattle.agreement.specs.Machine.{Simulates}
+use Rattle.agreement.proofs.Distinct.{Shown, distinct-rows, distinct-sides}
+use Rattle.agreement.proofs.Steps.{steps-apart}
 use Rattle.agreement.proofs.Machine.{has-kept, has-as, sim-end}
 use Rattle.agreement.proofs.MachineOperators.{attaching, projecting, uniting, clearing, excluding, joining}
 use Rattle.agreement.proofs.MachineOperators.{numbering, counting, adding, valuing, rooting, stepping, checking}
@@ -51,10 +56,10 @@ module _ (w : World) {ts : List Table} (n : ℕ) (here : length ts ≡ n) where
       rooting w (omega arith) (has-as encodeNumbers (λ p. (p, 1)) (λ p. refl) i) (λ t us x k i.
       sim-end w (has-as encode (λ p. row (p .0 .0) (p .0 .1) (p .1)) (λ p. refl) i)))
 
-  pub sim-S : {a b : ℕ} {x y : List Triple} → HasRows ts a x → HasRows ts b y
+  pub sim-S : {a b : ℕ} {x y : List Triple} {m : Mask} → Shown m x → Shown m y → HasRows ts a x → HasRows ts b y
       → Simulates w (tailS n a b .ops) (tailS n a b .result) ts (gives (semS x y))
   unfolding tailS semS sides sidesInOrder inGroup rising risingBy same
-  sim-S h i =
+  sim-S f g h i =
       attaching w here h (λ us p k j.
       attaching w (omega arith) (has-kept p i) (λ vs q k m.
       uniting w {n = n + 2} (omega arith)
@@ -62,7 +67,7 @@ module _ (w : World) {ts : List Table} (n : ℕ) (here : length ts ≡ n) where
       (has-as (encodePair encode encodeNumber) (λ r. (r, 2)) (λ r. refl) m) (λ us p k j.
       numbering w (omega arith) (grouped (λ r. r .0 .iter))
       (byNumber (λ r. r .0 .iter) ∷ byNumber (λ r. r .1) ∷ byNumber (λ r. r .0 .place) ∷ [])
-      (λ r s. refl) (λ r s. refl) j (λ us p k j.
+      (λ r s. refl) (λ r s. refl) j (distinct-sides f g) (λ us p k j.
       projecting w (omega arith) j (λ us p k j.
       sim-end w (has-as encode (λ r. row (r .0 .0 .iter) (r .1) (r .0 .0 .item)) (λ r. refl) j))))))
 
@@ -103,21 +108,23 @@ module _ (w : World) {ts : List Table} (n : ℕ) (here : length ts ≡ n) where
       projecting w (omega arith) j (λ us p k j.
       sim-end w (has-as encode (λ r. row (r .0 .iter) (r .0 .place) (r .1)) (λ r. refl) j)))
 
-  pub sim-X : {a : ℕ} {x : List Triple} (axis : Axis) (test : Test) → HasRows ts a x
+  pub sim-X : {a : ℕ} {x : List Triple} {m : Mask} (axis : Axis) (test : Test) → Lawful w → Shown m x
+      → HasRows ts a x
       → Simulates w (tailX n axis test a .ops) (tailX n axis test a .result) ts (semX w axis test x)
   unfolding tailX semX contexts nodesInOrder inGroup rising risingBy same
-  sim-X axis test h =
+  sim-X axis test laws f h =
       projecting w here h (λ us p k j.
-      stepping w (omega arith) (has-as encodeItem (λ r. (r .iter, r .item)) (λ r. refl) j) (λ t us p k j.
+      stepping w (omega arith) (has-as encodeItem (λ r. (r .iter, r .item)) (λ r. refl) j) (λ t e us p k j.
       numbering w (omega arith) (grouped (λ r. r .0)) (byNumber (λ r. r .0) ∷ byCell (λ r. r .1) ∷ [])
-      (λ r s. refl) (λ r s. refl) j (λ us p k j.
+      (λ r s. refl) (λ r s. refl) j (steps-apart w axis test laws f e) (λ us p k j.
       projecting w (omega arith) j (λ us p k j.
       sim-end w (has-as encode (λ r. row (r .0 .0) (r .1) (r .0 .1)) (λ r. refl) j)))))
 
-  pub sim-last : {a : ℕ} {x : List Triple} → HasRows ts a x → Simulates w (tailLast n a) (n + 1) ts (gives (semLast x))
+  pub sim-last : {a : ℕ} {x : List Triple} {m : Mask} → Shown m x → HasRows ts a x
+      → Simulates w (tailLast n a) (n + 1) ts (gives (semLast x))
   unfolding tailLast semLast inGroup rising risingBy same
-  sim-last h =
+  sim-last f h =
       numbering w here (grouped iterOf) (byNumber iterOf ∷ byNumber placeOf ∷ [])
-      (λ r s. refl) (λ r s. refl) h (λ us p k j.
+      (λ r s. refl) (λ r s. refl) h (distinct-rows f) (λ us p k j.
       projecting w (omega arith) j (λ us p k j.
       sim-end w (has-as encode (λ r. row (r .0 .iter) (r .1) (r .0 .item)) (λ r. refl) j)))

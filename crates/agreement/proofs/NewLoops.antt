@@ -1,5 +1,6 @@
 -- QF, before its body: every row of a gets a number of its own, which is a new iteration.
 --     looked n t           the row with number n
+--     map-rises            the map's inner iterations rise
 --     numbers-once         each number stands once, beside the row that `looked` finds
 --     newMask, newEnv      the new iterations, and what the variables hold in them
 --     loops-new            the new loop holds each of them once
@@ -15,18 +16,17 @@ use mathlib.Core.Bool.{Bool, true, false, cond}
 use lib.Dec.{eqb, leb}
 use lib.IntN.{ℤ, pos}
 use borrow.Author.Tests.{eq-eqb}
-use Rattle.laws.specs.Lists.{filter}
-use Rattle.laws.specs.Sorting.{sort}
-use Rattle.laws.specs.Keyed.{Key, risingBy, within, counted, joined}
-use Rattle.laws.proofs.Lists.{All, all-any, all-kept}
-use Rattle.laws.proofs.Filters.{In, all-of, in-filter, filter-map, filter-same}
+use Rattle.laws.specs.Lists.{filter, All, In}
+use Rattle.laws.specs.Sorting.{sort, Sorted, Weak}
+use Rattle.laws.specs.Keyed.{Key, risingBy, within, counted, joined, filled, inTurn, AtMostOne}
+use Rattle.laws.proofs.Lists.{all-any, all-kept, rising-mapped}
+use Rattle.laws.proofs.Filters.{all-of, in-filter, filter-map, filter-same}
 use Rattle.laws.proofs.Booleans.{by-cases}
 use Rattle.laws.proofs.Filters.{all-unmapped}
-use Rattle.laws.proofs.Sorting.{Sorted, Weak, risingBy-weak, filter-sort, all-sort}
-use Rattle.laws.proofs.Numbering.{inTurn, countedAfter-alone, map-inTurn, inTurn-rises, rising-once, AtMostOne}
-use Rattle.laws.proofs.Numbering.{absent, present}
+use Rattle.laws.proofs.Sorting.{risingBy-weak, filter-sort, all-sort}
+use Rattle.laws.proofs.Numbering.{countedAfter-alone, map-inTurn, inTurn-rises, rising-once}
+use Rattle.laws.specs.Keyed.{absent, present}
 use Rattle.laws.proofs.Joins.{joined-right, joined-one, joined-none}
-use Rattle.laws.proofs.Groups.{filled}
 use Rattle.meaning.specs.Meaning.{Env, bind}
 use Rattle.agreement.specs.Typed.{Triple, row, Vars, iterOf, placeOf, byNumber, together, holding}
 use Rattle.agreement.specs.Typed.{allInOrder, itemsAlone, newLoop, mapOf, liftedBy}
@@ -70,9 +70,15 @@ looked n t = front (within numberOf n t)
 pub newMask : List (Triple × ℕ) → Mask
 newMask t n = filled (within numberOf n t)
 
-pub numbers-rise : (a : List Triple) → Sorted (λ x y. leb (numberOf x) (numberOf y)) (allInOrder a)
+numbers-rise : (a : List Triple) → Sorted (λ x y. leb (numberOf x) (numberOf y)) (allInOrder a)
 numbers-rise a =
     subst (Sorted (λ x y. leb (numberOf x) (numberOf y))) (sym (in-turn a)) (inTurn-rises 0 (sort (risingBy keys) a))
+
+pub map-rises : (a : List Triple) → Sorted (λ (x y : ℕ × ℕ). leb (x .1) (y .1)) (mapOf (allInOrder a))
+unfolding mapOf
+map-rises a =
+    rising-mapped (λ (x y : ℕ × ℕ). leb (y .1) (x .1) ≡ false) (λ r. (r .0 .iter, r .1)) (allInOrder a)
+    (numbers-rise a)
 
 pub numbers-once : (a : List Triple) (n : ℕ)
     → within numberOf n (allInOrder a) ≡ cond (newMask (allInOrder a) n) ((looked n (allInOrder a), n) ∷ []) []

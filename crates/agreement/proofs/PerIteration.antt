@@ -1,6 +1,6 @@
 -- Operators that work once for each iteration that has rows (RE, RX).
---     Worked s d h run       run is a table with the rows that h makes for each iteration that has items, or h fails in
---                            one of these and run fails
+--     Worked s d h run       run is a table with the rows that h makes for each iteration that has items, or h fails
+--                            in one of these and run fails
 --     worked                 `each` over a table's iterations is one of the two
 use Prim.Native.Nat.{ℕ}
 use mathlib.Core.Path.{_≡_, refl, ap, _∙_, subst}
@@ -9,12 +9,12 @@ use mathlib.Core.Bool.{Bool, true, cond}
 use lib.Dec.{eqb}
 use lib.IntN.{ℤ}
 use borrow.Author.Tests.{eq-eqb}
-use Rattle.laws.specs.Lists.{filter, gather}
-use Rattle.laws.specs.Keyed.{within, numbersIn}
-use Rattle.laws.proofs.Lists.{All, all-kept}
+use Rattle.laws.specs.Lists.{filter, gather, All}
+use Rattle.laws.specs.Keyed.{within, numbersIn, filled}
+use Rattle.laws.proofs.Lists.{all-kept}
 use Rattle.laws.proofs.Filters.{in-filter, in-none}
 use Rattle.laws.proofs.Booleans.{by-cases}
-use Rattle.laws.proofs.Groups.{filled, numbersIn-at, within-gather}
+use Rattle.laws.proofs.Groups.{numbersIn-at, within-gather}
 use Rattle.laws.specs.Attempt.{Attempt, fails, gives, each}
 use Rattle.agreement.specs.Typed.{Triple, iterOf}
 use Rattle.agreement.specs.Families.{Family, placed, Represents}

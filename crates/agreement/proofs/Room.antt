@@ -24,8 +24,10 @@ use Rattle.meaning.specs.Plan.{Placed}
 use Rattle.meaning.specs.Operators.{Table, make}
 use Rattle.meaning.specs.Run.{cells, Filled, running}
 use Rattle.laws.proofs.Outcomes.{full-done, full-failed}
-use Rattle.theorems.proofs.Counts.{Full, counts}
-use Rattle.theorems.proofs.Counted.{Like, like-failed, like-done, items, evaluate-like, more-room, less-room}
+use Rattle.theorems.proofs.Counts.{counts}
+use Rattle.theorems.specs.Counts.{Full}
+use Rattle.theorems.proofs.Counted.{like-failed, like-done, evaluate-like, more-room, less-room}
+use Rattle.theorems.specs.Counted.{Like, items}
 use Rattle.theorems.proofs.Counted.{running-more, running-less}
 use Rattle.agreement.specs.Room.{after, turns, standing, filling}
 
@@ -162,7 +164,8 @@ evaluate-exact w room e (QF at v a b) =
 evaluate-exact w room e (QI at c a b) =
     exact-work _ (evaluate-exact w room e c) (evaluate-like w room e c)
     (λ s d. exact-trying at (w .truth (s .items))
-    (λ t _. exact-then (exact-either t (evaluate-exact w room e a) (evaluate-exact w room e b)) (λ u. exact-stand _ _)))
+    (λ t _. exact-then (exact-either t (evaluate-exact w room e a) (evaluate-exact w room e b))
+    (λ u. exact-stand _ _)))
 evaluate-exact w room e (QO at f a b) =
     exact-work _ (evaluate-exact w room e a) (evaluate-like w room e a)
     (λ s d. exact-then

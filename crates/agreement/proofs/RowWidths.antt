@@ -20,8 +20,8 @@ use lib.ListN.{length, getD, length-append, length-map}
 use Rattle.cells.specs.Cell.{same}
 use Rattle.cells.specs.declared.Axis.{Axis}
 use Rattle.cells.specs.declared.Test.{Test}
-use Rattle.laws.specs.Lists.{filter, gather}
-use Rattle.laws.proofs.Lists.{All, all-map, all-any, all-append, all-kept, all-mapped}
+use Rattle.laws.specs.Lists.{filter, gather, All}
+use Rattle.laws.proofs.Lists.{all-map, all-any, all-append, all-kept, all-mapped}
 use Rattle.laws.proofs.Filters.{map-append}
 use Rattle.laws.proofs.Sorting.{all-sort}
 use Rattle.laws.specs.Attempt.{Attempt, fails, gives, attempt, provided, each, Reading, refuses, reads, Work}

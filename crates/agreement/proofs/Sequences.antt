@@ -12,12 +12,12 @@ use mathlib.Core.List.{List, [], _∷_, _++_, map, map-map}
 use mathlib.Core.Bool.{false}
 use lib.Dec.{eqb, lit<}
 use lib.IntN.{ℤ}
-use Rattle.laws.specs.Sorting.{sort}
+use Rattle.laws.specs.Sorting.{sort, Sorted}
 use Rattle.laws.specs.Keyed.{Key, risingBy, within}
 use Rattle.laws.proofs.Lists.{all-mapped, all-map}
 use Rattle.laws.proofs.Filters.{filter-map, filter-append, map-append}
 use Rattle.laws.proofs.Booleans.{by-cases}
-use Rattle.laws.proofs.Sorting.{Sorted, sort-sorted, sorted-append}
+use Rattle.laws.proofs.Sorting.{sort-sorted, sorted-append}
 use Rattle.laws.specs.Attempt.{gives}
 use Rattle.meaning.specs.Meaning.{Env, bind}
 use Rattle.agreement.specs.Typed.{Triple, Vars, byNumber, holding, sides}

@@ -12,7 +12,8 @@ use Rattle.meaning.specs.World.{worldOf}
 use Rattle.meaning.specs.Counted.{evaluate}
 use Rattle.meaning.specs.Run.{running}
 use Rattle.meaning.specs.Calls.{gives, Outcome, room, runCall, evaluateCall}
-use Rattle.theorems.proofs.Counts.{Measured, measured, settled}
+use Rattle.theorems.proofs.Counts.{measured, settled}
+use Rattle.theorems.specs.Counts.{Measured}
 use Rattle.theorems.proofs.Counted.{running-measured}
 use Rattle.agreement.specs.Promises.{Passed, PlanPassed, stands, fills, SixBelow}
 use Rattle.agreement.proofs.Room.{Exact, exact-short, exact-enough, evaluate-exact, running-exact}

@@ -5,34 +5,40 @@
 --     nodes s i                the nodes that the step reaches in iteration i
 --     represents-X             after numbering, an iteration has its nodes in rising order
 --     rule-X                   the agreement of QX
+--     steps-apart              an iteration has each node once
 use Prim.Native.Nat.{ℕ}
 use native.Mathlib.Nat.{le-refl}
-use mathlib.Core.Path.{_≡_, refl, sym, ap, ap₂, _∙_, fun-ext}
+use mathlib.Core.Path.{_≡_, refl, sym, ap, ap₂, _∙_, subst, fun-ext}
 use mathlib.Core.List.{List, [], _∷_, map, map-map}
 use mathlib.Core.Bool.{true, cond}
 use lib.Dec.{eqb}
 use lib.IntN.{ℤ}
 use Rattle.cells.specs.declared.Axis.{Axis}
 use Rattle.cells.specs.declared.Test.{Test}
-use Rattle.laws.specs.Lists.{firsts}
-use Rattle.laws.specs.Sorting.{sort}
-use Rattle.laws.specs.Keyed.{Key, risingBy, within, numbersIn}
-use Rattle.laws.proofs.Lists.{All, Rising, all-any, all-map, all-mapped}
+use Rattle.laws.specs.Lists.{firsts, All, Rising}
+use Rattle.laws.specs.Sorting.{sort, Sorted}
+use Rattle.laws.specs.Keyed.{Key, risingBy, within, numbersIn, filled}
+use Rattle.laws.proofs.Lists.{all-any, all-map, all-mapped}
 use Rattle.laws.proofs.Filters.{filter-map, map-id}
 use Rattle.laws.proofs.Booleans.{by-cases}
-use Rattle.laws.proofs.Sorting.{Sorted, sort-sorted}
-use Rattle.laws.proofs.Groups.{filled, not-filled}
+use Rattle.laws.proofs.Sorting.{sort-sorted}
+use Rattle.laws.proofs.Groups.{not-filled}
 use Rattle.laws.specs.Attempt.{Attempt, fails, gives, attempt, each}
+use Rattle.laws.proofs.Outcomes.{gives-same}
 use Rattle.meaning.specs.World.{World}
-use Rattle.theorems.proofs.Nodes.{Lawful, Before, before-after}
+use Rattle.theorems.proofs.Nodes.{before-after}
+use Rattle.theorems.specs.Nodes.{Lawful, Before}
 use Rattle.agreement.specs.Typed.{Triple, row, iterOf, byNumber, byCell, contexts, stepsOf}
 use Rattle.agreement.specs.Typed.{nodesInOrder, semX}
 use Rattle.agreement.specs.Families.{Family, Mask, placed, Represents, Outside, Agree, agrees, failing}
+use Rattle.agreement.specs.Encoded.{encodeItem}
+use Rattle.agreement.specs.Tieless.{Distinct}
 use Rattle.agreement.proofs.Attempts.{got, fails-gives}
 use Rattle.agreement.proofs.Agreeing.{outside-filled}
 use Rattle.agreement.proofs.Keys.{byCell-lawful, later, later-last, before-le}
 use Rattle.agreement.proofs.Tables.{map-placed, numbered-at}
 use Rattle.agreement.proofs.PerIteration.{Worked, allWork, oneDoesNot, worked}
+use Rattle.agreement.proofs.Distinct.{Shown, distinct-nodes}
 
 -- QX sorts by iteration, then item
 abbrev keys : List (Key (ℕ × ℤ))
@@ -163,3 +169,19 @@ module _ (w : World) (axis : Axis) (test : Test) (lawful : Lawful w) where
       go (oneDoesNot i f e r) =
           failing i (outside-filled m s out i f)
           (stepped-fails i (w .step axis test (s i)) e) (ap (λ b. attempt b rest) (step-run a s rep ∙ r))
+
+  pub steps-apart : {m : Mask} {a : List Triple} {t : List (ℕ × ℤ)} → Shown m a
+      → stepsOf w axis test (contexts a) ≡ gives t → Distinct (0 ∷ 1 ∷ []) encodeItem t
+  steps-apart {a} {t} h d = go (worked s number (λ i. stepped i (w .step axis test (s i))) (own s) a (h .rows))
+    where
+      s : Family
+      s = h .family
+
+      go : Worked s number (λ i. stepped i (w .step axis test (s i)))
+          (each (λ i. stepped i (w .step axis test (s i))) (numbersIn iterOf a))
+          → Distinct (0 ∷ 1 ∷ []) encodeItem t
+      go (allWork u e given at) =
+          subst (λ x. Distinct (0 ∷ 1 ∷ []) encodeItem x) (gives-same (sym (step-run a s (h .rows) ∙ e) ∙ d))
+          (distinct-nodes u (nodes s) (λ i. at i ∙ rows-at s i)
+          (λ i. lawful .step-rises axis test (s i) (nodes s i) (step-means s i (given i))))
+      go (oneDoesNot i f e r) = fails-gives (step-run a s (h .rows) ∙ r) d

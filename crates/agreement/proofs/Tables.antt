@@ -14,13 +14,13 @@ use lib.Dec.{eqb}
 use lib.IntN.{ℤ}
 use lib.ListN.{length}
 use borrow.Author.Tests.{eqb-true, eq-eqb}
-use Rattle.laws.specs.Lists.{filter}
-use Rattle.laws.specs.Sorting.{sort}
-use Rattle.laws.specs.Keyed.{Key, risingBy, counted, countedAfter, within}
-use Rattle.laws.proofs.Lists.{All, all-map}
-use Rattle.laws.proofs.Filters.{In, in-map, map-id, all-filter, filter-map}
-use Rattle.laws.proofs.Sorting.{Sorted, Weak, LawfulKey, risingBy-weak, filter-sort, all-sort, sort-sorted}
-use Rattle.laws.proofs.Numbering.{inTurn, filter-countedAfter, countedAfter-alone}
+use Rattle.laws.specs.Lists.{filter, All, In}
+use Rattle.laws.specs.Sorting.{sort, Sorted, Weak}
+use Rattle.laws.specs.Keyed.{Key, risingBy, counted, countedAfter, within, LawfulKey, inTurn}
+use Rattle.laws.proofs.Lists.{all-map}
+use Rattle.laws.proofs.Filters.{in-map, map-id, all-filter, filter-map}
+use Rattle.laws.proofs.Sorting.{risingBy-weak, filter-sort, all-sort, sort-sorted}
+use Rattle.laws.proofs.Numbering.{filter-countedAfter, countedAfter-alone}
 use Rattle.agreement.specs.Typed.{Triple, row, iterOf, itemOf, grouped}
 use Rattle.agreement.specs.Families.{placed}
 

@@ -7,7 +7,7 @@ use lib.IntN.{pos}
 use lib.ListN.{length}
 use Rattle.laws.specs.Attempt.{gives, attempt, each}
 use Rattle.meaning.specs.World.{World}
-use Rattle.theorems.proofs.Nodes.{Lawful}
+use Rattle.theorems.specs.Nodes.{Lawful}
 use Rattle.meaning.specs.Query.{Query, QL, QE, QR, QV, QS, QT, QF, QI, QO, QC, QD, QX}
 use Rattle.meaning.specs.Meaning.{Env, bind, apply, values, eval}
 use Rattle.agreement.specs.Typed.{holding, sem, semS, semF, semI, semO, semC, semD, semX}

@@ -6,9 +6,7 @@ use Prim.Native.Nat.{ℕ, suc}
 use mathlib.Core.Path.{_≡_, refl, sym, ap, _∙_, subst}
 use mathlib.Core.List.{List, [], _∷_, _++_}
 use lib.IntN.{ℤ}
-use Rattle.laws.specs.Lists.{gather}
-use Rattle.laws.proofs.Lists.{All}
-use Rattle.laws.proofs.Filters.{In}
+use Rattle.laws.specs.Lists.{gather, All, In}
 use Rattle.laws.specs.Attempt.{Attempt, fails, gives, attempt}
 use Rattle.meaning.specs.World.{World}
 use Rattle.meaning.specs.Meaning.{values}

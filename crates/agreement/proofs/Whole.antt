@@ -1,4 +1,5 @@
 -- The whole plan and the whole query: under the first loop table and with no variable bound, after the last numbering.
+--     first, loops-first, holds-nothing     the first loop's iterations, and what the variables hold in them
 --     represents-last          the last numbering leaves places as they are
 --     only-first               a table of iteration 1 alone is the rows of iteration 1
 --     same-items               both fail, or the plan's table has exactly the query's items in order
@@ -9,15 +10,16 @@ use mathlib.Core.List.{List, [], _∷_, map}
 use mathlib.Core.Bool.{true}
 use lib.Dec.{eqb}
 use borrow.Author.Tests.{eqb-true, eq-eqb}
-use Rattle.laws.specs.Lists.{filter}
+use Rattle.laws.specs.Lists.{filter, In}
 use Rattle.laws.specs.Sorting.{sort}
 use Rattle.laws.specs.Keyed.{risingBy, within}
-use Rattle.laws.proofs.Filters.{In, all-of, in-filter, in-none, filter-all}
+use Rattle.laws.proofs.Filters.{all-of, in-filter, in-none, filter-all}
 use Rattle.laws.proofs.Booleans.{by-cases}
 use Rattle.laws.specs.Attempt.{gives, attempt}
 use Rattle.meaning.specs.Catalogue.{Catalogue}
 use Rattle.meaning.specs.World.{World, worldOf}
-use Rattle.theorems.proofs.Nodes.{Lawful, lawful}
+use Rattle.theorems.proofs.Nodes.{lawful}
+use Rattle.theorems.specs.Nodes.{Lawful}
 use Rattle.meaning.specs.Query.{Query}
 use Rattle.meaning.specs.Meaning.{eval}
 use Rattle.agreement.specs.Typed.{Triple, iterOf, placeOf, itemOf, byNumber, sem, semLast, semPlan}
@@ -29,14 +31,14 @@ use Rattle.agreement.proofs.NewLoops.{sort-rows}
 use Rattle.agreement.proofs.Theorem.{agreement}
 
 -- the first loop has iteration 1 alone
-first : Mask
+pub first : Mask
 first i = eqb i 1
 
-loops-first : Loops (1 ∷ []) first
+pub loops-first : Loops (1 ∷ []) first
 unfolding first filter
 loops-first i = by-cases (eqb i 1) (λ e. rw e (ap (λ (j : ℕ). j ∷ []) (sym (eqb-true i 1 e)))) (λ e. rw e)
 
-holds-nothing : Holds first (λ i v. []) (λ v. [])
+pub holds-nothing : Holds first (λ i v. []) (λ v. [])
 unfolding within filter placed
 holds-nothing v i = by-cases (first i) (λ e. rw e) (λ e. rw e)
 

@@ -4,7 +4,7 @@
 --     Represents t s         in table t the rows of each iteration i, in row order, are s i at places 1, 2, ..
 --     Loops l m              the loop table l holds each iteration of m once, and no other
 --     Outside m s            s is empty outside the iterations of m
---     Holds m ρ vars         each variable's table represents what ρ says of it in the iterations of m, nothing outside
+--     Holds m ρ vars         each variable's table represents what ρ says of it in the iterations of m, else nothing
 --     Agree m f run          run is a table that represents what f gives in the iterations of m, or f fails in one of
 --                            them and run fails
 --     Agrees ρ f run         run agrees with f under every loop and all variables that hold ρ

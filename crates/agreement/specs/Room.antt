@@ -3,7 +3,7 @@
 --     after a n          what is counted once attempt a gives; nothing where it fails
 --     turns ..           the turns of a `for`: `below` items stand, a's and the results so far
 --     standing w e q     the evaluator's count: the most items standing at once
---     filling w ps ts    the runner's: the cells of the tables that operators ps make after tables ts, rows times width
+--     filling w ps ts    the runner's: the cells of the tables that ps make after tables ts, rows times width
 use Prim.Native.Nat.{ℕ, _+_, max}
 use mathlib.Core.List.{List, [], _∷_, _++_}
 use mathlib.Core.Bool.{cond}

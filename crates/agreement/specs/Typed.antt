@@ -1,7 +1,7 @@
 -- The translation rules (document 01, 'Translation') as plain functions on typed rows: the same tables in the same row
 -- order as the operators make, without table numbers, and with numbers for the cells of iterations, places, counters.
--- Read as cells, a number n is the cell `pos n`, a truth its cell, an item itself; a row (i, p, z) is three cells, a pair
--- the cells of its first part, then those of its second. Each function names the operators that it stands for.
+-- Read as cells, a number n is the cell `pos n`, a truth its cell, an item itself; a row (i, p, z) is three cells, a
+-- pair the cells of its first part, then those of its second. Each function names the operators that it stands for.
 --     Triple                a row (iteration, place, item) of an expression's table
 --     row i p z             the row of iteration i, place p, item z
 --     Loop, Vars            a loop table: its iterations; the table of each variable

@@ -14,8 +14,8 @@ use mathlib.Core.Path.{_≡_, refl, sym, _∙_, ap}
 use lib.Dec.{eqb}
 use borrow.Author.Tests.{eq-eqb, ne-eqb}
 use Rattle.cells.specs.Cell.{nodeCell}
-use Rattle.laws.specs.Lists.{filter, below}
-use Rattle.laws.proofs.Lists.{Rising, rising-kept, rising-below}
+use Rattle.laws.specs.Lists.{filter, below, Rising}
+use Rattle.laws.proofs.Lists.{rising-kept, rising-below}
 use Rattle.laws.specs.Attempt.{fails, gives, attempt}
 use Rattle.meaning.specs.Catalogue.{Catalogue}
 use Rattle.meaning.specs.World.{roots, member, rootOf}

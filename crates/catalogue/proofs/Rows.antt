@@ -89,7 +89,8 @@ module _ (c : Catalogue) (r most : ℕ) (levels : (c .level r ≤ most) × (c .l
 pub own : (c : Catalogue) (r most : ℕ) → ownSound c r most ≡ true → Own c r most
 unfolding ownSound
 own c r most e =
-    let s = both-true (leb (c .level r) most && leb (c .level r) 63) (cond (eqb (c .kind r) element) (isName (c .prop r))
+    let s =
+    both-true (leb (c .level r) most && leb (c .level r) 63) (cond (eqb (c .kind r) element) (isName (c .prop r))
     (eqb (c .kind r) text && eqb (c .size r) 0 && leb 1 (c .level r))) e in
     own-of c r most (levels (c .level r) most (s .0)) (eqb (c .kind r) element) refl (s .1)
 
@@ -98,7 +99,8 @@ pub row : (doc : List ℕ) (r most n : ℕ) → rowSound doc r most ≡ true
     → (10 * r + 10 ≤ length doc) × Own (catalogueOf doc n) r most
 unfolding rowSound fits catalogueOf ownSound
 row doc r most n e =
-    let s = both-true (fits doc (10 * r) 10 && eqb (word doc (10 * r) 2) markDN) (ownSound (catalogueOf doc r) r most) e in
+    let s =
+    both-true (fits doc (10 * r) 10 && eqb (word doc (10 * r) 2) markDN) (ownSound (catalogueOf doc r) r most) e in
     let t = both-true (fits doc (10 * r) 10) (eqb (word doc (10 * r) 2) markDN) (s .0) in
     (leb-true _ _ (t .0), own (catalogueOf doc n) r most (s .1))
 

@@ -1,5 +1,6 @@
 -- What this crate's functions answer, in the words of the definitions.
 --     answered a     the answer of the catalogue's check: the rows, or refusal 4 at a row's offset
+--     levelOf a      the level of a row that is sound
 --     counted a      the same as a reading of the number of rows
 --     found f        the root that was asked for, or that there is none
 use Prim.Native.Nat.{ℕ}
@@ -9,6 +10,9 @@ use Rattle.laws.specs.Attempt.{Attempt, fails, Reading, reads, refuses}
 use Rattle.meaning.specs.Calls.{Answer, gives, refused}
 use Rattle.catalogue.specs.declared.Checked.{Checked}
 use Rattle.catalogue.specs.declared.Checked.the-variants.{Rows, Unsound}
+use Rattle.catalogue.specs.declared.Row.{Row}
+use Rattle.catalogue.specs.declared.Row.the-variants.{Level}
+use Rattle.catalogue.specs.declared.Row.the-variants as Row
 use Rattle.catalogue.specs.declared.Found.{Found}
 use Rattle.catalogue.specs.declared.Found.the-variants.{At, Nothing}
 
@@ -19,6 +23,10 @@ answered (Unsound p) = refused 4 p
 unfoldable pub counted : Checked → Reading ℕ
 counted (Rows n) = reads n
 counted (Unsound p) = refuses 4 p
+
+unfoldable pub levelOf : Row → Attempt ℕ
+levelOf (Level l) = Attempt.gives l
+levelOf Row.Unsound = fails
 
 unfoldable pub found : Found → Attempt ℕ
 found (At r) = Attempt.gives (r .0)

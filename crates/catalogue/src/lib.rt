@@ -1,13 +1,25 @@
 // The catalogue: its check, the fields of a row, roots and fragments.
 use cells::Rank;
+use cells::limits::DEEPEST;
+use cells::limits::ROWS;
 ghost use mathlib.Core.Path.{_≡_};
 ghost use Prim.Native.Nat.{ℕ, _+_, _*_, _-_, _≤_, _<_};
 ghost use lib.ListN.{length};
+ghost use Rattle.laws.specs.Attempt.{provided, gives};
 ghost use Rattle.meaning.specs.Calls;
 ghost use Rattle.meaning.specs.Catalogue;
 ghost use Rattle.meaning.specs.World;
 ghost use Rattle.catalogue.specs.Fields;
 ghost use Rattle.catalogue.specs.Answers;
+
+// The mark of a row.
+const DN: u16 = 0x444E;
+
+// The level of a sound row, or that the row is unsound.
+enum Row {
+    Level(usize),
+    Unsound,
+}
 
 // The number of rows, or the offset of the first row that is unsound.
 pub enum Checked {
@@ -78,34 +90,44 @@ fn kind_sound(size: usize, level: usize, kind: usize, prop: i32) -> bool
     }
 }
 
-// Whether a row's own fields are sound, where its level may be at most `most`.
-fn own_sound(doc: &[u8], r: Rank, most: usize) -> bool
+// The row of a rank that is all there and has its mark, read: sound in its own fields, where its level may be at most
+// `most`.
+fn own_row(doc: &[u8], r: Rank, most: usize) -> Row
     requires { ⌜ 10 * (r .0) + 10 ≤ length (now doc) ⌝ }
-    ensures { λ b. ⌜ b ≡ Catalogue.ownSound (Catalogue.catalogueOf (now (doc .entry)) (r .0)) (r .0) most ⌝ }
+    ensures { λ a. ⌜ Answers.levelOf a
+        ≡ provided (Catalogue.ownSound (Catalogue.catalogueOf (now (doc .entry)) (r .0)) (r .0) most)
+        (gives (Fields.levelAt (now (doc .entry)) (r .0))) ⌝ }
 {
     let l = level(doc, r);
     if most < l {
-        return false;
+        return Row::Unsound;
     }
-    if 63 < l {
-        return false;
+    if DEEPEST < l {
+        return Row::Unsound;
     }
-    kind_sound(size(doc, r), l, kind(doc, r), prop(doc, r))
+    if kind_sound(size(doc, r), l, kind(doc, r), prop(doc, r)) {
+        Row::Level(l)
+    } else {
+        Row::Unsound
+    }
 }
 
-// Whether the row of a rank is all there, has its mark, and is sound in its own fields.
-fn row_sound(doc: &[u8], r: Rank, most: usize) -> bool
+// The row of a rank, read: it is all there, has its mark, and is sound in its own fields.
+fn read_row(doc: &[u8], r: Rank, most: usize) -> Row
     requires { ⌜ 10 * (r .0) ≤ length (now doc) ⌝ }
-    ensures { λ b. ⌜ b ≡ Catalogue.rowSound (now (doc .entry)) (r .0) most ⌝ }
+    ensures { λ a. ⌜ Answers.levelOf a
+        ≡ provided (Catalogue.rowSound (now (doc .entry)) (r .0) most)
+        (gives (Fields.levelAt (now (doc .entry)) (r .0))) ⌝ }
 {
     let at = 10 * r.0;
     if !cells::fits(doc, at, 10) {
-        return false;
+        return Row::Unsound;
     }
-    if cells::word2(doc, at) != 0x444E {
-        return false;
+    let mark = cells::mark(doc, at);
+    match mark {
+        DN => own_row(doc, r, most),
+        0..=0x444D | 0x444F..=0xFFFF => Row::Unsound,
     }
-    own_sound(doc, r, most)
 }
 
 // The row checks, left to right.
@@ -114,15 +136,15 @@ fn rows_sound(doc: &[u8]) -> Checked
 {
     let mut r: usize = 0;
     let mut most: usize = 0;
-    while r < 2048 {
+    while r < ROWS {
         let at = 10 * r;
         if doc.len() <= at {
             return Checked::Rows(r);
         }
-        if !row_sound(doc, Rank(r), most) {
+        let Row::Level(level) = read_row(doc, Rank(r), most) else {
             return Checked::Unsound(at);
-        }
-        most = level(doc, Rank(r)) + 1;
+        };
+        most = level + 1;
         r += 1;
     }
     let end = 10 * r;

@@ -1,9 +1,11 @@
 -- What a cell holds, by the tests that code makes.
 --     range-mag, mag-range      an integer's magnitude is below 2^31, and nothing else's is
 --     below-range, from-range   the two tests by which code finds that a number is an integer
---     past-range                a cell that is neither negative nor an integer is a number from 2^31 on
---     held-integer              a cell in the range holds the integer
 --     held-negative             a negative cell outside the range holds no item
+--     past-range                a cell that is neither negative nor an integer is a number from 2^31 on
+--     from-here                 a cell that is not below a number is that number or one after it
+--     held-integer              a cell in the range holds the integer
+--     held-below                a cell below the integers holds no item
 --     held-stray, held-node     what a cell past the integers holds
 use mathlib.Core.Path.{_≡_, refl, sym}
 use mathlib.Core.Bool.{true, false, true≢false, false≢true}
@@ -45,6 +47,13 @@ unfolding inRange held
 held-integer (pos n) e = rw e
 held-integer (negsuc n) e = rw e
 
+pub held-below : (z : ℤ) → ltZ z (negsuc 0x7fff_ffff) ≡ true → held z ≡ Held.Stray
+unfolding held
+held-below (pos n) e = absurd (false≢true e)
+held-below (negsuc n) e =
+    let h : 0x7fff_ffff < n = ltb-true 0x7fff_ffff n e in
+    rw (le-ltb n 0x8000_0000 (omega arith))
+
 pub held-negative : (z : ℤ) → inRange z ≡ false → ltZ z (pos 0) ≡ true → held z ≡ Held.Stray
 unfolding inRange held
 held-negative (pos n) e f =
@@ -56,6 +65,10 @@ pub past-range : (z : ℤ) → inRange z ≡ false → ltZ z (pos 0) ≡ false �
 unfolding inRange
 past-range (pos n) e f = (n, refl, ltb-false n 0x8000_0000 e)
 past-range (negsuc n) e f = absurd (true≢false f)
+
+pub from-here : (m : ℕ) (z : ℤ) → ltZ z (pos m) ≡ false → (n : ℕ) × (z ≡ pos n) × (m ≤ n)
+from-here m (pos n) e = (n, refl, ltb-false n m e)
+from-here m (negsuc n) e = absurd (true≢false e)
 
 module _ (n : ℕ) where
   pub held-stray : 0x8000_0000 ≤ n → (n ≡ 0x1_0000_0000 → ⊥) → (n ≡ 0x1_0000_0001 → ⊥) → n < 0x2_0000_0000

@@ -1,5 +1,6 @@
 // The words of document 01 that code and definitions share, and the cells that hold items.
 pub mod codes;
+pub mod limits;
 pub mod marks;
 
 // The preorder rank of a node: the number of its row.
@@ -91,6 +92,14 @@ pub fn word2(s: &[u8], at: usize) -> usize
     let high = byte(s, at);
     let low = byte(s, at + 1);
     high * 256 + low
+}
+
+// The mark of a record: its first two bytes.
+pub fn mark(s: &[u8], at: usize) -> u16
+    requires { ⌜ at + 2 ≤ length (now s) ⌝ }
+    ensures { λ r. ⌜ r ≡ Bytes.word (now (s .entry)) at 2 ⌝ }
+{
+    word2(s, at) as u16
 }
 
 // The four bytes from an offset on, as one number.
@@ -202,32 +211,18 @@ pub fn cell_of(item: Item) -> i64
     }
 }
 
-// What a cell past the integers holds.
-fn item_past(n: u64) -> Held
-    requires { ⌜ 0x8000_0000 ≤ n ⌝ }
-    ensures { λ r. ⌜ r ≡ Cell.held (pos n) ⌝ }
-{
-    if n == 0x1_0000_0000 {
-        Held::Item(Item::Truth(false))
-    } else if n == 0x1_0000_0001 {
-        Held::Item(Item::Truth(true))
-    } else if n < 0x2_0000_0000 {
-        Held::Stray
-    } else {
-        Held::Item(Item::Node(Rank((n - 0x2_0000_0000) as usize)))
-    }
-}
-
 // The item that a cell holds.
 pub fn item_of(cell: i64) -> Held
     ensures { λ r. ⌜ r ≡ Cell.held cell ⌝ }
 {
-    if in_range(cell) {
-        Held::Item(Item::Integer(cell as i32))
-    } else if cell < 0 {
-        Held::Stray
-    } else {
-        item_past(cell as u64)
+    match cell {
+        -0x8000_0000..=0x7fff_ffff => Held::Item(Item::Integer(cell as i32)),
+        0x1_0000_0000 => Held::Item(Item::Truth(false)),
+        0x1_0000_0001 => Held::Item(Item::Truth(true)),
+        0x2_0000_0000..=0x7fff_ffff_ffff_ffff => Held::Item(Item::Node(Rank(
+            (cell as usize) - 0x2_0000_0000,
+        ))),
+        _ => Held::Stray,
     }
 }
 

@@ -21,7 +21,7 @@ use Rattle.plans.specs.declared.widths.Operands.{Operands}
 use Rattle.plans.specs.declared.widths.Operands.the-variants.{None, Of}
 use Rattle.plans.specs.Accepted.{Turn}
 use Rattle.plan_records.specs.Decoded.{operatorOf}
-use Rattle.plans.specs.Walk.{widthsOf}
+use Rattle.theorems.specs.PlanRead.{widthsOf}
 use Rattle.plans.specs.Widths as Widths
 use Rattle.plans.specs.Widths.{tablesOf}
 use Rattle.plans.proofs.Callers.{no-table, turn-fitting}

@@ -25,7 +25,8 @@ use Rattle.cells.specs.declared.Item.{Item}
 use Rattle.cells.specs.declared.Item.the-variants.{Integer, Truth, Node}
 use Rattle.cells.specs.declared.Held.{Held}
 use Rattle.cells.specs.declared.Held.the-variants as Held
-use Rattle.laws.proofs.Lists.{All, all-kept, all-below}
+use Rattle.laws.proofs.Lists.{all-kept, all-below}
+use Rattle.laws.specs.Lists.{All}
 use Rattle.laws.specs.Lists.{below}
 use Rattle.laws.specs.Attempt.{fails, gives, attempt, provided}
 use Rattle.meaning.specs.Catalogue.{Catalogue, catalogueOf}
@@ -50,7 +51,8 @@ number-quotient x y = by-test (same y (pos 0))
     by-test true = refl
     by-test false = number-ranged (quotZ x y)
 
-pub function-is : (f g : Function) (x y x′ y′ : ℤ) → f ≡ g → x′ ≡ x → y′ ≡ y → World.function g x′ y′ ≡ World.function f x y
+pub function-is : (f g : Function) (x y x′ y′ : ℤ) → f ≡ g → x′ ≡ x → y′ ≡ y
+    → World.function g x′ y′ ≡ World.function f x y
 function-is f g x y x′ y′ e d h = cc
 
 module _ (f : Function) (a b : ℤ) where
@@ -121,7 +123,8 @@ member-all P (x ∷ xs) (suc k) r h e = member-all P xs k r (h .1) e
 module _ (c : Catalogue) (k : ℕ) where
   pub root-row : (r : ℕ) → gives r ≡ member (roots c) (k - 1) → r < c .rows
   unfolding roots
-  root-row r e = member-all (λ n. n < c .rows) (roots c) (k - 1) r (all-kept _ _ (below (c .rows)) (all-below (c .rows))) e
+  root-row r e =
+      member-all (λ n. n < c .rows) (roots c) (k - 1) r (all-kept _ _ (below (c .rows)) (all-below (c .rows))) e
 
   pub root-none : fails ≡ member (roots c) (k - 1) → fails ≡ rootOf c k
   unfolding rootOf attempt

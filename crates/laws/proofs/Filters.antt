@@ -1,5 +1,4 @@
 -- Laws of `filter`, and members of lists.
---     In x xs                  x is a member of xs
 --     all-in, all-of           what is true of all is true of a member, and the other way
 --     filter-append, filter-map ..     filter against the other functions on lists
 --     filter-sub               a filter that passes no more than another is not changed by it
@@ -8,19 +7,15 @@
 --     gather-each, gather-map, map-gather ..     gather against map
 --     heads, tails, no-cons    equal lists taken apart
 use mathlib.Core.Path.{_≡_, refl, sym, ap, _∙_, subst}
-use mathlib.Core.Logic.{_⊎_, inl, inr}
+use mathlib.Core.Logic.{inl, inr}
 use mathlib.Core.List.{List, [], _∷_, _++_, map}
-use mathlib.Core.Bool.{Bool, true, false, true≢false}
+use mathlib.Core.Bool.{Bool, true, false}
 use lib.ListN.{length}
-use Rattle.laws.specs.Lists.{filter, count, gather}
+use Rattle.laws.specs.Lists.{filter, count, gather, All, In}
 use Rattle.laws.proofs.Booleans.{by-cases, clash}
-use Rattle.laws.proofs.Lists.{All, all-passed}
+use Rattle.laws.proofs.Lists.{all-passed}
 
 module _ {A : Type 0} where
-  abbrev pub In : A → List A → Type 0
-  In x [] = ⊥
-  In x (y ∷ ys) = (x ≡ y) ⊎ In x ys
-
   pub all-in : (P : A → Type 0) (xs : List A) (x : A) → All P xs → In x xs → P x
   all-in P (y ∷ ys) x h (inl e) = subst P (sym e) (h .0)
   all-in P (y ∷ ys) x h (inr i) = all-in P ys x (h .1) i

@@ -13,17 +13,13 @@ use mathlib.Core.List.{List, [], _∷_, _++_, map}
 use mathlib.Core.Bool.{Bool, true, false, not, cond}
 use lib.Dec.{eqb}
 use borrow.Author.Tests.{eqb-true, eqb-false, eq-eqb, ne-eqb}
-use Rattle.laws.specs.Lists.{filter, any, firsts, gather}
-use Rattle.laws.specs.Keyed.{within, numbersIn, without, unique}
-use Rattle.laws.proofs.Lists.{All, all-map, filter-none}
+use Rattle.laws.specs.Lists.{filter, any, firsts, gather, All}
+use Rattle.laws.specs.Keyed.{within, numbersIn, without, unique, filled, Twice}
+use Rattle.laws.proofs.Lists.{all-map, filter-none}
 use Rattle.laws.proofs.Filters.{all-filter, filter-all, filter-sub, filter-comm, filter-same}
 use Rattle.laws.proofs.Booleans.{by-cases, clash}
 use Rattle.laws.proofs.Filters.{filter-append, filter-yes, filter-no, tails, no-cons}
 use Rattle.laws.proofs.Joins.{filter-const}
-
-unfoldable pub filled : {A : Type 0} → List A → Bool
-filled [] = false
-filled (x ∷ xs) = true
 
 pub not-filled : {A : Type 0} (xs : List A) → filled xs ≡ false → xs ≡ []
 unfolding filled
@@ -89,14 +85,6 @@ module _ {A B : Type 0} (c : A → ℕ) (d : B → ℕ) (h : A → List B) (own 
       ∙ by-cases (eqb i (c r))
       (λ e. rw (e, filter-all (λ x. eqb i (d x)) (h r) (all-map (h r) (λ x q. ap (eqb i) (sym q) ∙ e) (own r))))
       (λ e. rw (e, filter-none (λ x. eqb i (d x)) (h r) (all-map (h r) (λ x q. ap (eqb i) (sym q) ∙ e) (own r))))
-
--- a number with two rows
-pub record Twice {A : Type 0} (c : A → ℕ) (t : List A) : Type 0 where
-  pub number : ℕ
-  pub first : A
-  pub second : A
-  pub others : List A
-  pub here : within c number t ≡ first ∷ second ∷ others
 
 some : {A : Type 0} (xs : List A) → filled xs ≡ true → (x : A) × (ys : List A) × (xs ≡ x ∷ ys)
 unfolding filled

@@ -10,9 +10,9 @@ use mathlib.Core.List.{List, [], _∷_, _++_, map}
 use mathlib.Core.Bool.{Bool, true, false, cond}
 use lib.Dec.{eqb}
 use borrow.Author.Tests.{eqb-true, eqb-false, eq-eqb, ne-eqb}
-use Rattle.laws.specs.Lists.{filter, gather}
+use Rattle.laws.specs.Lists.{filter, gather, All}
 use Rattle.laws.specs.Keyed.{joined, within}
-use Rattle.laws.proofs.Lists.{All, all-map}
+use Rattle.laws.proofs.Lists.{all-map}
 use Rattle.laws.proofs.Filters.{all-filter, filter-append, filter-map}
 use Rattle.laws.proofs.Booleans.{by-cases}
 use Rattle.laws.proofs.Filters.{filter-comm, gather-same}

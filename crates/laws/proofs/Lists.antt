@@ -1,6 +1,4 @@
--- What is true of every member of a list, and of every two.
---     All P xs         every member of xs is P
---     Rising R xs      every member of xs is in R to each member after it
+-- Laws of what is true of every member of a list, and of every two.
 --     all-..           All of what the functions on lists make
 --     rising-..        Rising of what the functions on lists make
 use Prim.Native.Nat.{ℕ, zero, suc, _<_}
@@ -8,17 +6,9 @@ use mathlib.Core.Path.{_≡_, refl}
 use mathlib.Core.List.{List, [], _∷_, _++_, map}
 use mathlib.Core.Bool.{Bool, true, false, cond}
 use native.Mathlib.Omega.{arith}
-use Rattle.laws.specs.Lists.{filter, below}
+use Rattle.laws.specs.Lists.{filter, below, All, Rising}
 
 module _ {A : Type 0} where
-  abbrev pub All : (A → Type 0) → List A → Type 0
-  All P [] = Unit {0}
-  All P (x ∷ xs) = P x × All P xs
-
-  abbrev pub Rising : (A → A → Type 0) → List A → Type 0
-  Rising R [] = Unit {0}
-  Rising R (x ∷ xs) = All (R x) xs × Rising R xs
-
   pub all-map : {P Q : A → Type 0} (xs : List A) → ((x : A) → P x → Q x) → All P xs → All Q xs
   all-map [] f h = tt
   all-map (x ∷ xs) f h = (f x (h .0), all-map xs f (h .1))

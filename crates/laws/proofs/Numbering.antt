@@ -1,5 +1,4 @@
 -- Laws of numbering within groups.
---     inTurn n xs              xs with the numbers n + 1, n + 2, ..
 --     filter-countedAfter      a filter that keeps or drops whole groups commutes with numbering
 --     countedAfter-alone       rows of one group are numbered in turn
 --     inTurn-rises             numbers given in turn rise
@@ -12,18 +11,14 @@ use mathlib.Core.Bool.{Bool, true, false}
 use lib.Dec.{eqb, leb}
 use lib.ListN.{length}
 use borrow.Author.Tests.{eqb-true, ne-eqb, lt-leb, leb-false}
-use Rattle.laws.specs.Lists.{filter}
-use Rattle.laws.specs.Keyed.{countedAfter, within}
-use Rattle.laws.proofs.Lists.{All, all-map, filter-none}
+use Rattle.laws.specs.Lists.{filter, All}
+use Rattle.laws.specs.Keyed.{countedAfter, within, inTurn, AtMostOne, absent, present}
+use Rattle.laws.proofs.Lists.{all-map, filter-none}
 use Rattle.laws.proofs.Filters.{count-filter, count-all, filter-yes, filter-no}
 use Rattle.laws.proofs.Booleans.{by-cases}
-use Rattle.laws.proofs.Sorting.{Sorted}
+use Rattle.laws.specs.Sorting.{Sorted}
 
 module _ {A : Type 0} where
-  unfoldable pub inTurn : ℕ → List A → List (A × ℕ)
-  inTurn n [] = []
-  inTurn n (x ∷ xs) = (x, suc n) ∷ inTurn (suc n) xs
-
   module _ (group : A → A → Bool) where
     pub filter-countedAfter : (p : A → Bool) → ((r s : A) → group r s ≡ true → p r ≡ p s) → (earlier xs : List A)
         → filter (λ r. p (r .0)) (countedAfter group earlier xs) ≡ countedAfter group (filter p earlier) (filter p xs)
@@ -72,11 +67,6 @@ module _ {A : Type 0} where
     inTurn-rises (suc n)
         xs,
   )
-
--- where the numbers of a column rise, each stands once
-pub data AtMostOne {A : Type 0} (c : A → ℕ) (n : ℕ) (xs : List A) : Type 0 where
-  absent : xs ≡ [] → AtMostOne c n xs
-  present : (x : A) → n ≡ c x → xs ≡ x ∷ [] → AtMostOne c n xs
 
 pub rising-once : {A : Type 0} (c : A → ℕ) (xs : List A) → Sorted (λ x y. leb (c x) (c y)) xs → (n : ℕ)
     → AtMostOne c n (within c n xs)

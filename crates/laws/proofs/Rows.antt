@@ -9,19 +9,22 @@ use native.Mathlib.Omega.{arith}
 use native.Mathlib.Numerals.{add-one}
 use native.Mathlib.Nat.{add-zero, zero-add, add-assoc, suc-add, suc-mul}
 use lib.ListN.{length, take, drop, getD, set, length-append, length-take, length-drop, take-append-drop}
-use lib.Seq.{take-append-le, take-take, drop-drop, getD-take, getD-drop, set-split, length-take-le, take-at, drop-at, drop-nil, take-nil, take-suc}
+use lib.Seq.{take-append-le, take-take, drop-drop, getD-take, getD-drop, set-split, length-take-le, take-at, drop-at}
+use lib.Seq.{drop-nil, take-nil, take-suc}
 use Rattle.laws.specs.Rows.{row, rowsAt, laid}
 
 module _ {A : Type 0} where
   -- splitting a laid list behind what is laid
-  take-front : (xs : List A) (at : ℕ) (vs : List A) → at ≤ length xs → take (at + length vs) (laid xs at vs) ≡ take at xs ++ vs
+  take-front : (xs : List A) (at : ℕ) (vs : List A) → at ≤ length xs
+      → take (at + length vs) (laid xs at vs) ≡ take at xs ++ vs
   unfolding laid
   take-front xs at vs h =
       rw (← append-assoc (take at xs) vs (drop (at + length vs) xs))
       (take-at (take at xs ++ vs) (drop (at + length vs) xs) (at + length vs)
       (length-append (take at xs) vs ∙ ap (λ (n : ℕ). n + length vs) (length-take-le at xs h)))
 
-  drop-front : (xs : List A) (at : ℕ) (vs : List A) → at ≤ length xs → drop (at + length vs) (laid xs at vs) ≡ drop (at + length vs) xs
+  drop-front : (xs : List A) (at : ℕ) (vs : List A) → at ≤ length xs
+      → drop (at + length vs) (laid xs at vs) ≡ drop (at + length vs) xs
   unfolding laid
   drop-front xs at vs h =
       rw (← append-assoc (take at xs) vs (drop (at + length vs) xs))
@@ -48,10 +51,12 @@ module _ {A : Type 0} where
       ∙ drop-drop (length ws) (at + length vs) xs)
       ∙ simp (append-assoc, length-append, add-assoc)
 
-  pub take-laid : (xs : List A) (at : ℕ) (vs : List A) (n : ℕ) → n ≤ at → at ≤ length xs → take n (laid xs at vs) ≡ take n xs
+  pub take-laid : (xs : List A) (at : ℕ) (vs : List A) (n : ℕ) → n ≤ at → at ≤ length xs
+      → take n (laid xs at vs) ≡ take n xs
   unfolding laid
   take-laid xs at vs n h k =
-      take-append-le n (take at xs) (vs ++ drop (at + length vs) xs) (simp length-take (omega arith)) ∙ take-take n at xs h
+      take-append-le n (take at xs) (vs ++ drop (at + length vs) xs) (simp length-take (omega arith))
+      ∙ take-take n at xs h
 
   -- a row is the end of the cells up to its own end
   row-take : (xs : List A) (a w : ℕ) → row xs a w ≡ drop a (take (a + w) xs)
@@ -61,7 +66,8 @@ module _ {A : Type 0} where
   row-take (x ∷ xs) (suc a) w = rw suc-add (row-take xs a w)
 
   pub row-laid :
-      (xs : List A) (at : ℕ) (vs : List A) (a w : ℕ) → a + w ≤ at → at ≤ length xs → row (laid xs at vs) a w ≡ row xs a w
+      (xs : List A) (at : ℕ) (vs : List A) (a w : ℕ) → a + w ≤ at → at ≤ length xs
+      → row (laid xs at vs) a w ≡ row xs a w
   row-laid xs at vs a w h k =
       row-take (laid xs at vs) a w ∙ ap (drop a) (take-laid xs at vs (a + w) h k) ∙ sym (row-take xs a w)
 
@@ -92,12 +98,15 @@ module _ {A : Type 0} where
   set-laid xs i v h = set-split xs i v h ∙ simp (add-one)
 
   -- one member more, read at i, of a row that grows
-  pub row-suc : (xs : List A) (a n : ℕ) (d : A) → a + n < length xs → row xs a (suc n) ≡ row xs a n ++ (getD xs (a + n) d ∷ [])
+  pub row-suc : (xs : List A) (a n : ℕ) (d : A) → a + n < length xs
+      → row xs a (suc n) ≡ row xs a n ++ (getD xs (a + n) d ∷ [])
   unfolding row
   row-suc xs a n d h =
-      take-suc (drop a xs) n d (simp length-drop (omega arith)) ∙ ap (λ (x : A). take n (drop a xs) ++ (x ∷ [])) (getD-drop a xs n d)
+      take-suc (drop a xs) n d (simp length-drop (omega arith))
+      ∙ ap (λ (x : A). take n (drop a xs) ++ (x ∷ [])) (getD-drop a xs n d)
 
-  pub getD-laid : (xs : List A) (at : ℕ) (vs : List A) (i : ℕ) (d : A) → i < at → at ≤ length xs → getD (laid xs at vs) i d ≡ getD xs i d
+  pub getD-laid : (xs : List A) (at : ℕ) (vs : List A) (i : ℕ) (d : A) → i < at → at ≤ length xs
+      → getD (laid xs at vs) i d ≡ getD xs i d
   getD-laid xs at vs i d h k =
       sym (getD-take (suc i) (laid xs at vs) i d (omega arith))
       ∙ ap (λ (l : List A). getD l i d) (take-laid xs at vs (suc i) h k)
@@ -105,7 +114,8 @@ module _ {A : Type 0} where
 
   -- one member more, copied from below
   pub copied-more :
-      (xs ys : List A) (from to i : ℕ) (d v : A) → ys ≡ laid xs to (row xs from i) → from + i < to → to + i < length xs →
+      (xs ys : List A) (from to i : ℕ) (d v : A) → ys ≡ laid xs to (row xs from i) → from + i < to → to + i < length xs
+      →
       v ≡ getD ys (from + i) d → set ys (to + i) v ≡ laid xs to (row xs from (i + 1))
   copied-more xs ys from to i d v e h k r =
       let n : length (row xs from i) ≡ i = length-row xs from i (omega arith) in
@@ -116,7 +126,9 @@ module _ {A : Type 0} where
       ∙ set-laid (laid xs to (row xs from i)) (to + i) v (omega arith)
       ∙ ap (λ (m : ℕ). laid (laid xs to (row xs from i)) (to + m) (v ∷ [])) (sym n)
       ∙ laid-more xs to (row xs from i) (v ∷ []) (omega arith)
-      ∙ ap (laid xs to) (ap (λ (x : A). row xs from i ++ (x ∷ [])) here ∙ sym (row-suc xs from i d (omega arith)) ∙ ap (row xs from) (sym (add-one i)))
+      ∙ ap (laid xs to)
+      (ap (λ (x : A). row xs from i ++ (x ∷ [])) here ∙ sym (row-suc xs from i d (omega arith))
+      ∙ ap (row xs from) (sym (add-one i)))
 
   -- one member more, behind what is laid
   pub set-more :

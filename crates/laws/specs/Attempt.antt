@@ -1,7 +1,8 @@
 -- The three kinds of outcome that the definitions have, each with its `do`.
 --     Attempt A      fails, or gives an A               what a query means, what an operator makes
 --     Reading A      refuses number place, or reads an A    reading records from left to right
---     Work A         full place, failed place, or done an A     work in lent room: refusals 6 and 7 at the record at work
+--     Work A         full place, failed place, or done an A     work in lent room: refusals 6 and 7 at the record at
+--                    work
 --     attempt, reading, work     what comes next, on the result; else the same outcome
 --     provided, unless, within   go on where a test holds; else fail, refuse, or lack room
 --     refusing, trying           an attempt that refuses where it fails; an attempt of the record at a place

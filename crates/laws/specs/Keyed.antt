@@ -8,12 +8,18 @@
 --     within c i t               the rows of t whose column c holds i
 --     without l u                the numbers of l that are not in u
 --     unique ns                  no number occurs twice
+--     LawfulKey k                a key with a strict weak order, whose ties are its equal rows
+--     inTurn n xs                xs with the numbers n + 1, n + 2, ..
+--     AtMostOne c n xs           xs has no member, or one, whose column c is n
+--     Twice c t                  a number that two rows of t hold
+--     filled xs                  xs has a member
 use Prim.Native.Nat.{ℕ, suc}
+use mathlib.Core.Path.{_≡_}
 use mathlib.Core.List.{List, [], _∷_, map}
 use mathlib.Core.Bool.{Bool, true, false, not, _&&_, _||_}
 use lib.Dec.{eqb}
 use Rattle.laws.specs.Lists.{filter, any, count, gather, firsts}
-use Rattle.laws.specs.Sorting.{sort}
+use Rattle.laws.specs.Sorting.{sort, Weak, tied}
 
 pub record Key (A : Type 0) : Type 0 where
   pub before : A → A → Bool
@@ -46,3 +52,27 @@ without l u = filter (λ i. not (any (eqb i) u)) l
 unfoldable pub unique : List ℕ → Bool
 unique [] = true
 unique (n ∷ ns) = not (any (eqb n) ns) && unique ns
+
+pub record LawfulKey {A : Type 0} (k : Key A) : Type 0 where
+  pub weak : Weak (k .before)
+  pub ties : (x y : A) → k .same x y ≡ tied (k .before) x y
+
+module _ {A : Type 0} where
+  unfoldable pub inTurn : ℕ → List A → List (A × ℕ)
+  inTurn n [] = []
+  inTurn n (x ∷ xs) = (x, suc n) ∷ inTurn (suc n) xs
+
+pub data AtMostOne {A : Type 0} (c : A → ℕ) (n : ℕ) (xs : List A) : Type 0 where
+  absent : xs ≡ [] → AtMostOne c n xs
+  present : (x : A) → n ≡ c x → xs ≡ x ∷ [] → AtMostOne c n xs
+
+pub record Twice {A : Type 0} (c : A → ℕ) (t : List A) : Type 0 where
+  pub number : ℕ
+  pub first : A
+  pub second : A
+  pub others : List A
+  pub here : within c number t ≡ first ∷ second ∷ others
+
+unfoldable pub filled : {A : Type 0} → List A → Bool
+filled [] = false
+filled (x ∷ xs) = true

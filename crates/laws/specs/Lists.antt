@@ -7,7 +7,12 @@
 --     firsts same xs    the different members of xs, each where it first appears
 --     below n           0, 1, .. n - 1
 --     sum xs            the numbers of xs added up
+--     All P xs          every member of xs is P
+--     Rising R xs       every member of xs is in R to each member after it
+--     In x xs           x is a member of xs
 use Prim.Native.Nat.{ℕ, zero, suc, _+_}
+use mathlib.Core.Path.{_≡_}
+use mathlib.Core.Logic.{_⊎_}
 use mathlib.Core.List.{List, [], _∷_, _++_}
 use mathlib.Core.Bool.{Bool, true, false, not, cond, _&&_, _||_}
 
@@ -43,3 +48,16 @@ below (suc n) = below n ++ (n ∷ [])
 unfoldable pub sum : List ℕ → ℕ
 sum [] = zero
 sum (n ∷ ns) = n + sum ns
+
+module _ {A : Type 0} where
+  abbrev pub All : (A → Type 0) → List A → Type 0
+  All P [] = Unit {0}
+  All P (x ∷ xs) = P x × All P xs
+
+  abbrev pub Rising : (A → A → Type 0) → List A → Type 0
+  Rising R [] = Unit {0}
+  Rising R (x ∷ xs) = All (R x) xs × Rising R xs
+
+  abbrev pub In : A → List A → Type 0
+  In x [] = ⊥
+  In x (y ∷ ys) = (x ≡ y) ⊎ In x ys

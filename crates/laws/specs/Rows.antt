@@ -1,4 +1,5 @@
--- Rows of one width in a flat list, and writing over a list. Generic in the element: cells and row numbers both use them.
+-- Rows of one width in a flat list, and writing over a list. Generic in the element: cells and row numbers both use
+-- them.
 --     row xs a w           the w members from a on
 --     rowsAt xs a n w      the n rows of width w from a on
 --     laid xs at vs        xs with vs written over it at `at`

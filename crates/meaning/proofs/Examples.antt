@@ -1,15 +1,15 @@
--- The marked examples of document 01 ('Marked examples'), as one table and one statement, over bytes. Where an engine is meant
--- both are asked: the evaluator on the query's bytes, the runner on the bytes of the translated plan.
+-- The marked examples of document 01 ('Marked examples'), as one table and one statement, over bytes. Where an engine
+-- is meant both are asked: the evaluator on the query's bytes, the runner on the bytes of the translated plan.
 --     integer, boolean, sequence ..     the bytes of a query record, its operands after it
 --     row size level kind prop          the bytes of a catalogue row
---     Ask                               a question to the calls: a query's items, its plan's size, its run or its evaluation
---                                       in so many lent cells
+--     Ask                               a question to the calls: a query's items, its plan's size, its run or its
+--                                       evaluation in so many lent cells
 --     Told                              what the calls tell
 --     told ask                          the calls' answers to a question
 --     examples                          the table: a question, and what must be told
 --     marked                            every question is told what the table says
 --     repeated-rows-stay                RD keeps repeated rows
-use Prim.Native.Nat.{ℕ, zero, suc, _+_, _-_}
+use Prim.Native.Nat.{ℕ, zero, suc, _-_}
 use mathlib.Core.Path.{_≡_, refl}
 use mathlib.Core.List.{List, [], _∷_, _++_, map}
 use lib.IntN.{ℤ, pos, negsuc}
@@ -82,19 +82,20 @@ twoRoots : List ℕ
 twoRoots = row 0 0 1 1 ++ row 0 0 1 2
 
 -- the catalogue of chartask's example
-harbours : List ℕ
+unfoldable pub harbours : List ℕ
+unfolding row
 harbours =
     row 6 0 1 1 ++ row 4 1 1 2 ++ row 1 2 1 3 ++ row 0 3 3 5350 ++ row 1 2 1 4 ++ row 0 3 3 995 ++ row 0 1 1 2
 
 -- Questions
 
-data Ask : Type 0 where
+pub data Ask : Type 0 where
   itemsOf : (query doc : List ℕ) → Ask
   planOf : (query : List ℕ) → Ask
   runOf : (query doc : List ℕ) (lent : ℕ) → Ask
   workOf : (query doc : List ℕ) (lent : ℕ) → Ask
 
-data Told : Type 0 where
+pub data Told : Type 0 where
   items : List ℤ → Told
   numbers : List ℕ → Told
   refusal : ℕ → Told
@@ -123,14 +124,14 @@ answered (Calls.gives ns) = numbers ns
 answered (Calls.refused n p) = refusal n
 
 -- the bytes of the translated plan
-planBytes : List ℕ → List ℕ
+unfoldable pub planBytes : List ℕ → List ℕ
 planBytes query = take (of (Calls.translateCall query 1000 .answer)) (Calls.translateCall query 1000 .left)
   where
     of : Calls.Answer → ℕ
     of (Calls.gives ns) = getD ns 1 0
     of (Calls.refused n p) = 0
 
-told : Ask → List Told
+unfoldable pub told : Ask → List Told
 unfolding evaluated ran answered planBytes itemColumn integer boolean empty root variable sequence letting for choice
     function counting step row twoRoots harbours Lists.filter Lists.any Lists.all Lists.count Lists.firsts Lists.gather
     Lists.below Lists.sum Sorting.insert Sorting.sort Cell.cellOf Cell.inRange Cell.same Cell.before Cell.held
@@ -169,21 +170,32 @@ both t = t ∷ t ∷ []
 
 -- The table
 
-nested : List ℕ
+unfoldable pub nested : List ℕ
+unfolding integer sequence for variable
 nested =
     for 0 (sequence (integer (pos 1)) (integer (pos 2)))
     (sequence (variable 0)
     (for 1 (sequence (integer (pos 10)) (integer (pos 20))) (sequence (variable 0) (variable 1))))
 
-longitudes : List ℕ
-longitudes = for 0 (step 1 3 2 (root 1)) (counting (step 1 3 3 (variable 0)))
+unfoldable pub latitudes : List ℕ
+unfolding root variable for counting step
+latitudes = for 0 (step 1 3 2 (root 1)) (counting (step 1 3 3 (variable 0)))
 
 byZero : List ℕ
 byZero = function 4 (integer (pos 1)) (integer (pos 0))
 
+mixed : List ℕ
+mixed = sequence (integer (pos 2)) (boolean 1)
+
+oneTwo : List ℕ
+oneTwo = sequence (integer (pos 1)) (integer (pos 2))
+
+unfoldable pub nestedItems : List ℤ
+nestedItems = pos 1 ∷ pos 1 ∷ pos 10 ∷ pos 1 ∷ pos 20 ∷ pos 2 ∷ pos 2 ∷ pos 10 ∷ pos 2 ∷ pos 20 ∷ []
+
 examples : List (Ask × List Told)
 examples =
-    (itemsOf nested [], both (items (pos 1 ∷ pos 1 ∷ pos 10 ∷ pos 1 ∷ pos 20 ∷ pos 2 ∷ pos 2 ∷ pos 10 ∷ pos 2 ∷ pos 20 ∷ [])))
+    (itemsOf nested [], both (items nestedItems))
     ∷ (itemsOf (function 4 (integer (negsuc 6)) (integer (pos 2))) [], both (items (negsuc 2 ∷ [])))
     ∷ (itemsOf (function 4 (integer (negsuc 2147483647)) (integer (negsuc 0))) [], both (refusal 7))
     ∷ (itemsOf (function 1 (sequence (integer (pos 1)) (integer (pos 2))) empty) [], both (refusal 7))
@@ -192,26 +204,27 @@ examples =
     ∷ (itemsOf (choice (boolean 0) byZero (integer (pos 2))) [], both (items (pos 2 ∷ [])))
     ∷ (itemsOf (letting 0 byZero (integer (pos 2))) [], both (refusal 7))
     ∷ (itemsOf (choice empty (integer (pos 1)) (integer (pos 2))) [], both (items (pos 2 ∷ [])))
-    ∷ (itemsOf (choice (sequence (integer (pos 2)) (boolean 1)) (integer (pos 1)) (integer (pos 2))) [], both (refusal 7))
+    ∷ (itemsOf (choice mixed (integer (pos 1)) (integer (pos 2))) [], both (refusal 7))
     ∷ (planOf (integer (pos 10)), numbers (5 ∷ 41 ∷ []) ∷ [])
     ∷ (runOf (integer (pos 10)) [] 13, numbers (10 ∷ 1 ∷ 13 ∷ []) ∷ [])
     ∷ (runOf (integer (pos 10)) [] 12, refusal 6 ∷ [])
     ∷ (itemsOf (step 7 0 0 (root 1)) twoRoots, both (items []))
-    ∷ (itemsOf longitudes harbours, both (items (pos 1 ∷ pos 0 ∷ [])))
-    ∷ (planOf longitudes, numbers (28 ∷ 214 ∷ []) ∷ [])
-    ∷ (runOf longitudes harbours 130, numbers (124 ∷ 2 ∷ 130 ∷ []) ∷ [])
+    ∷ (itemsOf latitudes harbours, both (items (pos 1 ∷ pos 0 ∷ [])))
+    ∷ (planOf latitudes, numbers (28 ∷ 214 ∷ []) ∷ [])
+    ∷ (runOf latitudes harbours 130, numbers (124 ∷ 2 ∷ 130 ∷ []) ∷ [])
     -- beside the marked ones: all of a's items stand before b's, however many there are
-    ∷ (itemsOf (sequence (sequence (integer (pos 1)) (integer (pos 2))) (integer (pos 3))) [], both (items (pos 1 ∷ pos 2 ∷ pos 3 ∷ [])))
-    ∷ (workOf longitudes harbours 4, numbers (2 ∷ 4 ∷ []) ∷ [])
-    ∷ (workOf longitudes harbours 3, refusal 6 ∷ [])
+    ∷ (itemsOf (sequence oneTwo (integer (pos 3))) [], both (items (pos 1 ∷ pos 2 ∷ pos 3 ∷ [])))
+    ∷ (workOf latitudes harbours 4, numbers (2 ∷ 4 ∷ []) ∷ [])
+    ∷ (workOf latitudes harbours 3, refusal 6 ∷ [])
     ∷ []
 
 marked : map (λ (e : Ask × List Told). told (e .0)) examples ≡ map (λ (e : Ask × List Told). e .1) examples
-unfolding told examples nested longitudes byZero both
+unfolding told examples nested latitudes byZero mixed oneTwo nestedItems both
 marked = refl
 
 -- RD keeps repeated rows of t: they are no set
 repeated-rows-stay :
-    Operators.minus ((pos 1 ∷ []) ∷ (pos 1 ∷ []) ∷ (pos 2 ∷ []) ∷ []) ((pos 2 ∷ []) ∷ []) ≡ (pos 1 ∷ []) ∷ (pos 1 ∷ []) ∷ []
+    Operators.minus ((pos 1 ∷ []) ∷ (pos 1 ∷ []) ∷ (pos 2 ∷ []) ∷ []) ((pos 2 ∷ []) ∷ [])
+    ≡ (pos 1 ∷ []) ∷ (pos 1 ∷ []) ∷ []
 unfolding Operators.minus Operators.sameRow Lists.filter Lists.any Cell.same
 repeated-rows-stay = refl

@@ -1,7 +1,14 @@
--- The five public calls (document 01, 'The eight refusals', 'Room'): for any bytes and any lent length, the answer and what
+-- The five public calls (document 01, 'The eight refusals', 'Room'): for any bytes and any lent length, the answer and
+-- what
 -- stands in the lent slice afterwards. These are what the calls promise.
---     Answer                 gives its values, in the order that document 01 names them; or refused number place, all else 0
+--     Answer                 gives its values, in the order that document 01 names them; or refused number place, all
+--                            else 0
 --     Outcome A              an answer, and what is left in the lent slice
+--     refusal z lent n p     the outcome of a refusal: number and place, and z in all that was lent
+--     lastTable ts           the last table
+--     catalogueAnswer, queryAnswer     the answer of a check, by what was read
+--     planOf lent q          the plan of a query, or 2 at 0, or 8 at 0
+--     translateOutcome, runOutcome, evaluateOutcome     the outcome of a call, by what it came to
 --     room lent              the cells that count: the first 65,536
 --     catalogueCall doc      rows                          4
 --     queryCall query        records                       1 2 3

@@ -2,6 +2,8 @@
 --     Catalogue             the rows by rank: how many, and each one's size, level, kind and prop
 --     catalogueOf doc n     the first n rows of the bytes
 --     markDN                the two bytes 'DN'
+--     element, text         the two kinds, 1 and 3
+--     isName z              z is a name number, 0 to 65535
 --     ownSound c r most     row r's own fields are sound, where its level may be at most `most`
 --     rowSound doc r most   the same of a row that is all there and has its mark
 --     rowsSound ..          the row checks from row r on, left to right: the number of rows, or refusal 4 at the row
@@ -62,7 +64,8 @@ unfoldable pub rowSound : List ℕ → ℕ → ℕ → Bool
 rowSound doc r most =
     fits doc (10 * r) 10 && eqb (word doc (10 * r) 2) markDN && ownSound (catalogueOf doc r) r most
 
--- the rows from r on, of which at most `left` may be there. Row 0 has level 0; a later level is at most the previous plus 1
+-- the rows from r on, of which at most `left` may be there. Row 0 has level 0; a later level is at most the previous
+-- plus 1
 unfoldable pub rowsSound : ℕ → List ℕ → ℕ → ℕ → Reading ℕ
 rowsSound zero doc r most = unless (leb (length doc) (10 * r)) 4 (10 * r) (reads r)
 rowsSound (suc left) doc r most =

@@ -1,10 +1,27 @@
 -- What each operator makes (document 01, 'Plan operators'). A table is a list of rows, a row a list of cells.
+--     Row, Table          a row's cells; a table's rows
 --     cell r c            column c of a row
 --     column t c          column c of a table, top to bottom
 --     sameRow r s         equal rows
+--     attach t z          RA: adds a column of that cell
+--     project t cs        RP: those columns
+--     minus t u           RD: rows of t equal to no row of u
+--     select t c          RS: rows whose column c is true
+--     join t c u d        RJ: for each row of t, each row of u with equal cells
 --     rising ks r s       row r stands before row s by the keys ks, first key first
---     numbered same t     t with a column that counts from 1 within equal groups
+--     numberedAfter ..    rows with one more than the earlier rows of their group
+--     inGroup p r s       two rows have equal column p; 255: all rows are one group
+--     number t p ks       RN: rows in order, numbered within equal p
+--     added f t           RF, RO: adds a function of each row
+--     groups t c          the different cells of column c, by first appearance
 --     groupOf t c x       the rows of t whose column c holds x
+--     counts t c          RC: how many rows hold each cell
+--     itemsInOrder t      column 2 by rising column 1, ties as they stood
+--     truths w t          RE: truth of each group
+--     once xs             RK: no cell occurs twice
+--     steps w axis test t     RX: a step per group
+--     rooted w t k        RO: adds the root of fragment k
+--     tableOf ts t        table t
 --     make w op ts        the table that op makes of the tables ts, or that it fails
 use Prim.Native.Nat.{ℕ, zero, suc, _+_}
 use mathlib.Core.List.{List, [], _∷_, _++_, map}
@@ -98,7 +115,8 @@ itemsInOrder t = column (sort (rising (1 ∷ [])) t) 2
 
 unfoldable pub truths : World → Table → Attempt Table
 truths w t =
-    each (λ x. attempt (w .truth (itemsInOrder (groupOf t 0 x))) (λ b. gives ((x ∷ truthCell b ∷ []) ∷ []))) (groups t 0)
+    each (λ x. attempt (w .truth (itemsInOrder (groupOf t 0 x))) (λ b. gives ((x ∷ truthCell b ∷ []) ∷ [])))
+    (groups t 0)
 
 -- RK: t; fails if a cell of column c occurs twice
 unfoldable pub once : List ℤ → Bool
@@ -108,7 +126,8 @@ once (x ∷ xs) = not (any (same x) xs) && once xs
 -- RX: per different column 0, the step's nodes from column 1, each once, by rising rank
 unfoldable pub steps : World → Axis → Test → Table → Attempt Table
 steps w axis test t =
-    each (λ x. attempt (w .step axis test (column (groupOf t 0 x) 1)) (λ ys. gives (map (λ y. x ∷ y ∷ []) ys))) (groups t 0)
+    each (λ x. attempt (w .step axis test (column (groupOf t 0 x) 1)) (λ ys. gives (map (λ y. x ∷ y ∷ []) ys)))
+    (groups t 0)
 
 -- RO: adds the root cell; fails if t has a row and there is no fragment k
 unfoldable pub rooted : World → Table → ℕ → Attempt Table

@@ -18,7 +18,8 @@ use Rattle.cells.specs.declared.Held.the-variants as Held
 use Rattle.cells.specs.Bytes.{byteAt, word, int8, fits}
 use Rattle.cells.specs.Cell.{held}
 use Rattle.laws.specs.Lists.{all}
-use Rattle.laws.specs.Attempt.{Attempt, fails, gives, attempt, provided, Reading, refuses, reads, reading, refusing, unless}
+use Rattle.laws.specs.Attempt.{Attempt, fails, gives, attempt, provided, Reading, refuses, reads, reading, refusing}
+use Rattle.laws.specs.Attempt.{unless}
 use Rattle.cells.specs.declared.Function.{Function}
 use Rattle.cells.specs.declared.Axis.{Axis}
 use Rattle.cells.specs.declared.Test.{Test}
@@ -186,7 +187,8 @@ pub record Placed : Type 0 where
 -- a sound operator at an offset, with the offset after it
 unfoldable pub placedAt : List ℕ → List ℕ → ℕ → Attempt (Placed × ℕ)
 placedAt bs ws at =
-    attempt (operatorAt bs at) (λ o. attempt (widthOf ws (o .0)) (λ w. gives (record { at = at; op = o .0; width = w }, o .1)))
+    attempt (operatorAt bs at)
+    (λ o. attempt (widthOf ws (o .0)) (λ w. gives (record { at = at; op = o .0; width = w }, o .1)))
 
 -- the last operator of a plan
 unfoldable pub lastOf : Placed → List Placed → Placed

@@ -3,7 +3,8 @@
 --     Record               one record by itself, without operands
 --     recordAt bs at       the record at an offset and the offset after it, or refusal 1
 --     Read                 what reading at an offset finds: the tree, the offset after it, the records read so far
---     read d bs vs n at    the query at an offset, d more levels allowed, vs the variables bound there, n records before it
+--     read d bs vs n at    the query at an offset, d more levels allowed, vs the variables bound there, n records
+--                          before it
 --     queryRead bs         the whole of the bytes as one query: refusals 1, 2, 3
 --     free v q             variable v is free in q
 use Prim.Native.Nat.{ℕ, zero, suc, _+_}
@@ -19,7 +20,8 @@ use Rattle.cells.specs.Bytes.{byteAt, word, int4, fits}
 use Rattle.cells.specs.Cell.{falseCell, trueCell}
 use Rattle.cells.specs.Codes.{functionOf, axisOf, testOf}
 use Rattle.laws.specs.Lists.{any}
-use Rattle.laws.specs.Attempt.{Attempt, fails, gives, attempt, provided, Reading, refuses, reads, reading, refusing, unless}
+use Rattle.laws.specs.Attempt.{Attempt, fails, gives, attempt, provided, Reading, refuses, reads, reading, refusing}
+use Rattle.laws.specs.Attempt.{unless}
 
 pub data Query : Type 0 where
   QL : (at : ℕ) → ℤ → Query  -- an integer (QL) or a boolean (QB), as its cell
@@ -122,7 +124,8 @@ recordOf bs at mark =
     (cond (eqb mark markQD) (sized bs at 2 (gives values))
     (cond (eqb mark markQX)
     (sized bs at 6
-    (attempt (axisOf (byteAt bs (at + 2))) (λ x. attempt (testOf (byteAt bs (at + 3)) (word bs (at + 4) 2)) (λ t. gives (step x t)))))
+    (attempt (axisOf (byteAt bs (at + 2)))
+    (λ x. attempt (testOf (byteAt bs (at + 3)) (word bs (at + 4) 2)) (λ t. gives (step x t)))))
     fails))))))))))))
 
 -- bad mark, field, or cut record: refusal 1

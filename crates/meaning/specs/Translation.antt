@@ -1,10 +1,19 @@
--- The translation, rule by rule (document 01, 'Translation'). Each expression, under a loop table of one column, gives a table
+-- The translation, rule by rule (document 01, 'Translation'). Each expression, under a loop table of one column, gives
+-- a table
 -- (iter, pos, item). In the rules n is the number of the next operator, l the loop's table, e the variables' tables.
 --     Made                  operators, and the number of the table that holds the result
+--     Tables                the table of each variable
 --     next n x              the number after the operators of x
+--     hold v t e            e, but variable v stands in table t
+--     freeIn q              the variables that are free in q, rising
+--     othersIn v q          .. but v
 --     lifts e m cs n vs     the operators that lift variables vs: join each with table m, then project columns cs
 --     lifted e n vs         the variables' tables after them
---     headF, tailF ..       the operators of a rule that stand before, and after, its operands
+--     ruleL, ruleR, ruleE   the rules of the records without operands
+--     headF, headI          the operators of a rule that stand between its operands
+--     tailS, tailF, tailO, tailC, tailD, tailX     .. after them
+--     tailLast              the last two operators of a plan
+--     then os x             operators os, then x
 --     tr q n l e            the rule of each record
 --     plan q                the whole plan
 use Prim.Native.Nat.{ℕ, zero, suc, _+_}
@@ -71,7 +80,8 @@ tailS n a b =
       result = n + 4;
     }
 
--- QF: N = number a, no p, keys 0, 1; attach 1; project 3 4 2 (the variable); from N project 3 (new L), project 0 3 (map)
+-- QF: N = number a, no p, keys 0, 1; attach 1; project 3 4 2 (the variable); from N project 3 (new L), project 0 3
+-- (map)
 unfoldable pub headF : ℕ → ℕ → List Op
 headF n a =
     RN a 255 (0 ∷ 1 ∷ []) ∷ RA n (pos 1) ∷ RP (n + 1) (3 ∷ 4 ∷ 2 ∷ []) ∷ RP n (3 ∷ []) ∷ RP n (0 ∷ 3 ∷ []) ∷ []

@@ -1,16 +1,26 @@
--- What is known of items and of one catalogue (document 01, 'Items and cells', 'Query records'). Everything above this file
+-- What is known of items and of one catalogue (document 01, 'Items and cells', 'Query records'). Everything above this
+-- file
 -- knows items and catalogue only through the record `World`.
 --     World                    what a query needs to know: root, arith, value, truth, step
---     integerOf a              the integer that a cell holds
+--     integerIn h, integerOf a     the integer that is held, or that a cell holds; else it fails
+--     ranged z                 z, where it is in the integer range; else it fails
+--     quotient x y             x idiv y, cut toward zero
+--     function f x y           function f of two integers
 --     arith f a b              function f of two cells: fails on a non-integer, a zero divisor, a result out of range
---     value c a                the value of a cell
+--     valueIn c h, value c a   the value of what is held, of a cell
+--     truthFrom h xs           truth of a condition whose first item is h, and the others xs
 --     truth xs                 truth of a condition's items
 --     fragment c r             the rank of the root of r's fragment
---     onAxis c axis x v        node v is on the axis of context x
+--     isDescendant c x v, isChild c x v     v is a descendant, a child, of x
+--     axisHolds c axis x v     what the axis asks of ranks, sizes and levels
+--     onAxis c axis x v        node v is on the axis of context x, in its fragment
 --     passes c test v          node v passes the test
 --     step c axis test xs      a step: each node once, by rising rank; fails where an item is no node
+--     rankIn c h, rankOf c a   the rank of a node of the catalogue; no other item has one
 --     ranksOf c xs             the ranks of a list of nodes of the catalogue
 --     reached c axis test xs   the ranks that a step from ranks xs reaches
+--     roots c                  the ranks of level 0, rising
+--     member xs k              member k of a list, counted from 0
 --     rootOf c k               the root of fragment k, counted from 1
 --     worldOf c                the world of one catalogue
 use Prim.Native.Nat.{ℕ, zero, suc, _+_, _-_}
@@ -26,7 +36,8 @@ use Rattle.cells.specs.declared.Held.the-variants as Held
 use Rattle.cells.specs.declared.Function.{Function}
 use Rattle.cells.specs.declared.Function.the-variants.{Add, Subtract, Multiply, Divide, Equal, Less}
 use Rattle.cells.specs.declared.Axis.{Axis}
-use Rattle.cells.specs.declared.Axis.the-variants.{Child, Descendant, DescendantOrSelf, Itself, Parent, Ancestor, Following, Preceding}
+use Rattle.cells.specs.declared.Axis.the-variants.{Child, Descendant, DescendantOrSelf, Itself, Parent, Ancestor}
+use Rattle.cells.specs.declared.Axis.the-variants.{Following, Preceding}
 use Rattle.cells.specs.declared.Test.{Test}
 use Rattle.cells.specs.declared.Test.the-variants.{AnyNode, Element, Text, Named}
 use Rattle.cells.specs.Cell.{held, inRange, same, truthCell, nodeCell}

@@ -8,7 +8,9 @@ use lib.ListN.{length}
 use Rattle.cells.specs.Bytes.{bytesOf, bits8}
 use Rattle.cells.specs.Codes.{functionNumber, axisNumber, testNumber, testName}
 use Rattle.laws.specs.Lists.{gather}
-use Rattle.meaning.specs.Plan.{Op, RT, RA, RP, RU, RD, RS, RJ, RN, RF, RV, RC, RE, RK, RX, RO, markRT, markRA, markRP, markRU, markRD, markRS, markRJ, markRN, markRF, markRC, markRE, markRK, markRX, markRO}
+use Rattle.meaning.specs.Plan.{Op, RT, RA, RP, RU, RD, RS, RJ, RN, RF, RV, RC, RE, RK, RX, RO, markRT, markRA}
+use Rattle.meaning.specs.Plan.{markRP, markRU, markRD, markRS, markRJ, markRN, markRF, markRC, markRE, markRK}
+use Rattle.meaning.specs.Plan.{markRX, markRO}
 
 unfoldable pub operatorBytes : Op → List ℕ
 operatorBytes RT = bytesOf 2 markRT

@@ -10,16 +10,17 @@ use lib.Dec.{eqb, leb}
 use lib.ListN.{length}
 use lib.IntN.{ℤ}
 use Rattle.cells.specs.Bytes.{word, int8, fits, Bytes}
-use Rattle.cells.specs.declared.Test.{Test}
 use Rattle.laws.specs.Attempt.{Attempt, gives, attempt, Given}
 use Rattle.meaning.specs.Query.{fragmentOf}
-use Rattle.cells.specs.Codes.{functionOf, testOf, testName}
+use Rattle.cells.specs.Codes.{functionOf}
 use Rattle.meaning.specs.Plan.{Op, sized, field, attachAt, projectAt, numberAt, functionAt, stepAt}
 use Rattle.meaning.specs.Plan.{operatorOf, operatorAt}
 use Rattle.meaning.specs.Plan.{markRT, markRA, markRP, markRU, markRD, markRS, markRJ, markRN, markRF, markRC, markRE}
 use Rattle.meaning.specs.Plan.{markRK, markRX, markRO}
-use Rattle.theorems.proofs.PlanFields.{Own}
+use Rattle.theorems.specs.PlanFields.{Own}
 use Rattle.laws.proofs.Booleans.{both-true}
+use Rattle.cells.proofs.Bytes.{word-bound}
+use Rattle.cells.proofs.Numbers.{name-fits}
 use Rattle.laws.proofs.Outcomes.{given-fails, given-gives, given-cond, given-provided, given-attempt, given-any}
 use Rattle.plan_records.specs.Fields.{Ends}
 use Rattle.plan_records.proofs.Columns.{columns-length}
@@ -28,16 +29,6 @@ within : (lo hi n : ℕ) → leb lo n && leb n hi ≡ true → (lo ≤ n) × (n 
 within lo hi n t =
     let (l, u) = both-true _ _ t in
     (leb-true lo n l, leb-true n hi u)
-
-name-fits : (n name : ℕ) → name < 65536 → Given (λ (y : Test). testName y < 65536) (testOf n name)
-unfolding testOf testName
-name-fits n name h =
-    given-cond (eqb n 3) (given-gives h)
-    (given-provided (eqb name 0)
-    (λ t.
-    given-cond (eqb n 0) (given-gives (omega arith))
-    (given-cond (eqb n 1) (given-gives (omega arith))
-    (given-cond (eqb n 2) (given-gives (omega arith)) given-fails))))
 
 module _ (bs : List ℕ) (h : Bytes bs) (at : ℕ) where
   sized-ends :
@@ -77,15 +68,12 @@ module _ (bs : List ℕ) (h : Bytes bs) (at : ℕ) where
       given-cond (eqb f 7) (plain 6 _ (omega arith) tt)
       (sized-ends 7 _ (omega arith) (λ l. given-any (functionOf f) (λ g. given-gives tt)))
 
-  name-word : (at : ℕ) → word bs at 2 < 65536
-  unfolding word
-  name-word at = omega (arith, h (at + 0), h (at + 1))
-
   step-own : Given Own (stepAt bs at)
   unfolding stepAt Own
   step-own =
       given-any _
-      (λ x. given-attempt (name-fits (field bs at 5) (word bs (at + 6) 2) (name-word (at + 6))) (λ y k. given-gives k))
+      (λ x.
+      given-attempt (name-fits (field bs at 5) (word bs (at + 6) 2) (word-bound bs h (at + 6) 2)) (λ y k. given-gives k))
 
   root-own : (t k : ℕ) → Given Own (attempt (fragmentOf k) (λ k. gives (Op.RO t k)))
   unfolding fragmentOf Own

@@ -4,7 +4,7 @@ use Prim.Native.Nat.{ℕ, _≤_, _<_}
 use mathlib.Core.List.{List}
 use lib.ListN.{length}
 use Rattle.meaning.specs.Plan.{Op}
-use Rattle.theorems.proofs.PlanFields.{Own}
+use Rattle.theorems.specs.PlanFields.{Own}
 
 pub record Ends (bs : List ℕ) (at : ℕ) (x : Op × ℕ) : Type 0 where
   pub after : at < x .1

@@ -24,8 +24,9 @@ use Rattle.laws.specs.Attempt.{unless}
 use Rattle.meaning.specs.Plan.{Placed, columnsAt, tableWidth, widthOf, operatorAt, placedAt, lastOf, ended}
 use Rattle.meaning.specs.Plan.{planFrom, planRead}
 use Rattle.laws.proofs.Outcomes.{reads-same, refuses-reads, gives-same}
-use Rattle.theorems.proofs.PlanFields.{Own, Width}
-use Rattle.theorems.proofs.PlanWidths.{Every, attempt-gives, provided-gives}
+use Rattle.theorems.specs.PlanFields.{Own, Width}
+use Rattle.theorems.specs.PlanWidths.{Every}
+use Rattle.theorems.proofs.PlanWidths.{attempt-gives, provided-gives}
 use Rattle.laws.proofs.Booleans.{both-true}
 use Rattle.plan_records.specs.declared.Operator.{Operator}
 use Rattle.plan_records.specs.declared.Operator.the-variants as Operator
@@ -37,7 +38,8 @@ use Rattle.plans.specs.declared.Checked.the-variants.{Operators, Unsound
 use Rattle.plans.specs.declared.widths.Operands.the-variants.{None, Of}
 use Rattle.plan_records.specs.Decoded.{operatorOf, Stands, Means}
 use Rattle.plans.specs.Widths.{tablesOf, suitable, madeWidth}
-use Rattle.plans.specs.Walk.{checked, planCount, widthsOf}
+use Rattle.plans.specs.Walk.{checked, planCount}
+use Rattle.theorems.specs.PlanRead.{widthsOf}
 use Rattle.plans.specs.Accepted.{Suited, Fitting, Ahead, Turn, placed}
 use Rattle.plan_records.proofs.Columns.{columns-length}
 use Rattle.plan_records.proofs.Fields.{operator-ends}

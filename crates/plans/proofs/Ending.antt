@@ -16,8 +16,8 @@ use lib.ListN.{length, getD, take, set, length-append, length-set}
 use lib.Seq.{take-suc-set, getD-take}
 use Rattle.laws.specs.Attempt.{fails, gives, refuses, reads, reading, unless}
 use Rattle.meaning.specs.Plan.{Op, Placed, operatorAt, widthOf, lastOf, ended, planRead}
-use Rattle.theorems.proofs.PlanFields.{Width}
-use Rattle.theorems.proofs.PlanWidths.{Every}
+use Rattle.theorems.specs.PlanFields.{Width}
+use Rattle.theorems.specs.PlanWidths.{Every}
 use Rattle.plan_records.specs.declared.Decoded.{Decoded}
 use Rattle.plan_records.specs.declared.Reading.{Reading as Read}
 use Rattle.plan_records.specs.declared.Reading.the-variants as Read
@@ -26,7 +26,8 @@ use Rattle.plans.specs.declared.widths.Width.{Width as Found}
 use Rattle.plans.specs.declared.widths.Width.the-variants as Found
 use Rattle.plan_records.specs.Decoded.{operatorOf, readingOf, Stands, Standing, Means}
 use Rattle.plans.specs.Widths.{widthField}
-use Rattle.plans.specs.Walk.{checked, planCount, widthsOf, lastAt, Walk, Checking}
+use Rattle.plans.specs.Walk.{checked, planCount, lastAt, Walk, Checking}
+use Rattle.theorems.specs.PlanRead.{widthsOf}
 use Rattle.cells.specs.Bytes.{Bytes}
 use Rattle.plans.proofs.Walking.{walk-start, walk-end, walk-excess, walk-bad, walk-on, last-at, last-width}
 use Rattle.plans.proofs.Walking.{widths-more, unplaced, misplaced}

@@ -14,13 +14,14 @@ use Rattle.cells.specs.Cell.{held}
 use Rattle.laws.specs.Attempt.{gives, reads}
 use Rattle.cells.specs.Codes.{testName}
 use Rattle.meaning.specs.Plan.{Placed, plainIn, columnsAt, columns, widthOf, planRead}
-use Rattle.theorems.proofs.PlanFields.{Own, Width}
+use Rattle.theorems.specs.PlanFields.{Own, Width}
 use Rattle.plan_records.specs.declared.Operator.{Operator}
 use Rattle.plan_records.specs.declared.Operator.the-variants as Operator
 use Rattle.plan_records.specs.declared.Decoded.{Decoded}
 use Rattle.plan_records.specs.Decoded.{operatorOf, Stands}
 use Rattle.plans.specs.Widths.{madeWidth}
-use Rattle.plans.specs.Walk.{widthsOf, Walk}
+use Rattle.plans.specs.Walk.{Walk}
+use Rattle.theorems.specs.PlanRead.{widthsOf}
 
 unfoldable pub Suited : List ℕ → Operator → ℕ → ℕ → Type 0
 Suited bs Operator.One w v = Unit {0}

@@ -3,14 +3,12 @@ pub mod widths;
 
 use crate::widths::Width;
 use crate::widths::width_of;
+use cells::limits::OPERATORS;
 use plan_records::Reading;
 use plan_records::read;
 ghost use mathlib.Core.Path.{_≡_};
 ghost use lib.ListN.{length};
 ghost use Rattle.plans.specs.Walk.{checked, planCount};
-
-// A plan has at most 512 operators.
-const OPERATORS: usize = 512;
 
 // The answer of the plan check, with the place of a refusal.
 pub enum Checked {
@@ -57,6 +55,6 @@ fn operators(plan: &[u8], widths: &mut [u8]) -> Checked
 pub fn check(plan: &[u8]) -> Checked
     ensures { λ r. ⌜ checked r ≡ planCount (now (plan .entry)) ⌝ }
 {
-    let mut widths = [0u8; 512];
+    let mut widths = [0u8; OPERATORS];
     operators(plan, &mut widths)
 }

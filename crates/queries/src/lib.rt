@@ -1,4 +1,6 @@
 // The query check: the records of a query from left to right, their number, their depth and their variables.
+use cells::limits::LEVELS;
+use cells::limits::RECORDS;
 use query_records::Operands;
 use query_records::Reading;
 use query_records::flags::flag;
@@ -12,11 +14,6 @@ ghost use Rattle.laws.specs.Attempt.{reads, unless};
 ghost use Rattle.meaning.specs.Calls.{queryCall};
 ghost use Rattle.queries.specs.Answers.{answered, walked};
 ghost use Rattle.queries.specs.Walk.{walk, two, three, answerOf};
-
-// A query has at most 128 records, nested at most 32 deep.
-const RECORDS: usize = 128;
-
-const LEVELS: usize = 32;
 
 // The answer of the query check, with the place of a refusal.
 pub enum Checked {

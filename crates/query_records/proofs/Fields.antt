@@ -5,7 +5,7 @@ use Prim.Native.Nat.{ℕ, _+_, _≤_, _<_}
 use mathlib.Core.Path.{_≡_}
 use mathlib.Core.List.{List}
 use native.Mathlib.Omega.{arith}
-use borrow.Author.Tests.{leb-true, ltb-true}
+use borrow.Author.Tests.{leb-true}
 use lib.Dec.{eqb}
 use lib.ListN.{length}
 use Rattle.cells.specs.Bytes.{byteAt, fits}
@@ -15,18 +15,8 @@ use Rattle.meaning.specs.Query.{markQT, markQF, markQI, markQO, markQC, markQD,
 use Rattle.meaning.specs.Query.{recordOf}
 use Rattle.laws.proofs.Outcomes.{given-fails, given-gives, given-cond, given-provided, given-attempt}
 use Rattle.laws.proofs.Outcomes.{given-any}
-use Rattle.laws.proofs.Booleans.{both-true}
+use Rattle.theorems.proofs.Ranges.{variable-below, fragment-within}
 use Rattle.query_records.specs.Fields.{Ranged, Sound}
-
-variable-below : (b : ℕ) → Given (λ v. v < 8) (variableOf b)
-unfolding variableOf
-variable-below b = given-provided _ (λ t. given-gives (ltb-true b 8 t))
-
-fragment-within : (b : ℕ) → Given (λ k. (1 ≤ k) × (k ≤ 255)) (fragmentOf b)
-unfolding fragmentOf
-fragment-within b =
-    given-provided _
-    (λ t. let (l, u) = both-true _ _ t in given-gives (leb-true 1 b l, leb-true b 255 u))
 
 module _ (bs : List ℕ) (at : ℕ) where
   sized-sound : (n : ℕ) (a : Attempt Record) → 0 < n → Given Ranged a → Given (Sound bs at) (sized bs at n a)

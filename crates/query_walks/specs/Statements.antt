@@ -11,7 +11,7 @@ use lib.Dec.{eqb}
 use lib.ListN.{length}
 use Rattle.laws.specs.Attempt.{Attempt, gives}
 use Rattle.meaning.specs.Query.{Query, Read, free}
-use Rattle.theorems.proofs.Closed.{Closed, records}
+use Rattle.theorems.specs.Closed.{Closed, records}
 use Rattle.query_records.specs.declared.Operands.{Operands}
 use Rattle.query_records.specs.declared.Operands.the-variants.{None, Variable, One, Two, Binding, Three}
 use Rattle.query_walks.specs.Parse.{Parsed, parse}

@@ -28,7 +28,7 @@ use Rattle.tables.specs.Layout.{tableAt}
 use Rattle.plan_records.specs.declared.Decoded.{Decoded}
 use Rattle.plans.specs.Accepted.{Ahead, Turn, placed}
 use Rattle.plan_records.specs.Decoded.{operatorOf}
-use Rattle.plans.specs.Walk.{widthsOf}
+use Rattle.theorems.specs.PlanRead.{widthsOf}
 use Rattle.plans.proofs.Callers.{ahead-start, ahead-end, plan-last}
 use Rattle.plans.proofs.Walking.{last-width, widths-more, widths-length}
 use Rattle.directory.specs.Directory.{standAt, entered, tablesIn, widthsIn, Listed, EndToEnd}

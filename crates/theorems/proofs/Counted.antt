@@ -1,7 +1,4 @@
 -- The counted evaluation agrees with the meaning, and the runner with running the operators (document 01, 'Room').
---     Like how m a           work m that does not answer 6 ends as attempt a does: both fail, or one result by how
---     Gives c cost how f y   work f comes to y: done from its cost on, 6 below it
---     Fails c f              work f fails at one place from one count on, 6 below it
 -- For the evaluation (evaluate, eval) and for the runner (running, run):
 --     evaluate-done, evaluate-failed      an answer other than 6 is the meaning's
 --     more-room, less-room                the count of a result is exactly the room that it needs
@@ -9,7 +6,7 @@
 --     running-done, running-failed, running-fits, running-more, running-less, running-gives, running-fails     the same
 use Prim.Native.Nat.{ℕ, _+_, _-_, _≤_, _<_, max}
 use mathlib.Core.Path.{_≡_, refl, sym, _∙_, ap, subst}
-use mathlib.Core.List.{List, [], _∷_, _++_, map, append-assoc, append-nil}
+use mathlib.Core.List.{List, [], _∷_, _++_, append-assoc, append-nil}
 use mathlib.Core.Bool.{Bool, true, false, cond}
 use native.Mathlib.Omega.{arith}
 use lib.IntN.{ℤ, pos}
@@ -20,18 +17,16 @@ use Rattle.meaning.specs.World.{World}
 use Rattle.meaning.specs.Query.{Query, QL, QE, QR, QV, QS, QT, QF, QI, QO, QC, QD, QX}
 use Rattle.meaning.specs.Meaning.{Env, bind, eval}
 use Rattle.meaning.specs.Counted.{Standing, stand, adding, loop, evaluate}
-use Rattle.meaning.specs.Plan.{Op, Placed}
+use Rattle.meaning.specs.Plan.{Placed}
 use Rattle.meaning.specs.Operators.{Table}
 use Rattle.meaning.specs.Run.{run, cells, Filled, running}
 use Rattle.laws.proofs.Outcomes.{fails-gives, gives-same, full-done, full-failed, failed-done}
 use Rattle.laws.proofs.Outcomes.{attempt-gives}
-use Rattle.theorems.proofs.Counts.{Measured, Full, Ended, stood, trial, tested, measured, done-fits, done-more}
+use Rattle.theorems.proofs.Counts.{stood, trial, tested, measured, done-fits, done-more}
+use Rattle.theorems.specs.Counts.{Measured, Ended}
 use Rattle.theorems.proofs.Counts.{done-less}
-
-pub data Like {A B : Type 0} (how : A → B) : Work A → Attempt B → Type 0 where
-  like-full : {p : ℕ} {a : Attempt B} → Like how (full p) a
-  like-failed : {p : ℕ} → Like how (failed p) fails
-  like-done : {x : A} {y : B} → how x ≡ y → Like how (done x) (gives y)
+use Rattle.theorems.specs.Counted.{Like, items, count, tables, filled, operators, Gives, Fails, like-failed}
+use Rattle.theorems.specs.Counted.{like-full, like-done}
 
 -- Like work after like work, an attempt in front, a test of the room in front
 module _ {A B C D : Type 0} {how : A → B} {how′ : C → D} where
@@ -67,12 +62,6 @@ like-either :
     → Like how m a → Like how n b → Like how (cond t m n) (cond t a b)
 like-either true h k = h
 like-either false h k = k
-
-abbrev pub items : Standing → List ℤ
-items s = s .items
-
-abbrev pub count : Standing → ℕ
-count s = s .count
 
 like-adding : (room at below : ℕ) (xs : List ℤ) → Like items (adding room at below xs) (gives xs)
 unfolding adding stand
@@ -141,15 +130,6 @@ evaluate-like w room e (QX at x t a) =
 
 -- The runner: its count is the cells that the tables fill
 
-abbrev pub tables : Filled → List Table
-tables f = f .tables
-
-abbrev pub filled : Filled → ℕ
-filled f = f .filled
-
-abbrev pub operators : List Placed → List Op
-operators ps = map (λ (p : Placed). p .op) ps
-
 pub running-like :
     (w : World) (room : ℕ) (ps : List Placed) (ts : List Table) (n : ℕ)
     → Like tables (running w room ps ts n) (run w (operators ps) ts)
@@ -183,18 +163,6 @@ module _ {A B : Type 0} {how : A → B} where
   like-fails p (like-done {x = x} h) e = absurd (failed-done p x (sym e))
 
 -- Measured work that is like an attempt at every room: what the attempt comes to decides the answer at each room
-
-pub record Gives {A B : Type 0} (c : ℕ) (cost : A → ℕ) (how : A → B) (f : ℕ → Work A) (y : B) : Type 0 where
-  pub result : A
-  pub given : how result ≡ y
-  pub enough : (room : ℕ) → cost result ≤ room → f room ≡ done result
-  pub short : (room : ℕ) → c ≤ room → room < cost result → Full (f room)
-
-pub record Fails {A : Type 0} (c : ℕ) (f : ℕ → Work A) : Type 0 where
-  pub need : ℕ
-  pub place : ℕ
-  pub enough : (room : ℕ) → need ≤ room → f room ≡ failed place
-  pub short : (room : ℕ) → c ≤ room → room < need → Full (f room)
 
 module _ {A B : Type 0} {c : ℕ} {cost : A → ℕ} {sound : A → Type 0} {how : A → B} {f : ℕ → Work A} {a : Attempt B}
     (m : Measured c cost sound f) (l : (room : ℕ) → Like how (f room) a) where

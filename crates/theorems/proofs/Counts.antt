@@ -1,7 +1,4 @@
 -- Work in room has one outcome and one count: 6 exactly where the count passes the room (document 01, 'Room').
---     Ended cost sound k o      outcome o is no answer 6; if it is done, it costs k and is sound
---     Full m                    work m answers 6, at some place
---     Measured c cost sound f   at every room from c on, work f has one outcome and needs one count, and is 6 below it
 -- Measured work, made of measured work:
 --     stood, chosen             done at once; one of two works
 --     trial, tested, then       after an attempt, a test of the room, other work
@@ -9,7 +6,6 @@
 -- What one answer says of the others:
 --     done-fits, done-sound, done-more, done-less, failed-more, full-less
 -- The evaluation:
---     Sound s                   a standing has at most as many items as its count
 --     measured w e q            the evaluation of a query is measured by its count
 --     counts w room e q s       what stands at the end has at most as many items as its count, which is in the room
 use Prim.Native.Nat.{ℕ, _+_, _-_, _≤_, _<_, max}
@@ -31,23 +27,7 @@ use Rattle.meaning.specs.Counted.{Standing, stand, adding, loop, evaluate}
 use Rattle.laws.proofs.Outcomes.{full-done, full-failed, given-fails, given-gives, given-attempt}
 use Rattle.laws.specs.Attempt.{Given}
 use Rattle.laws.proofs.Outcomes.{given-any}
-
-abbrev pub Ended : {A : Type 0} → (A → ℕ) → (A → Type 0) → ℕ → Work A → Type 0
-Ended cost sound k (full p) = ⊥
-Ended cost sound k (failed p) = Unit {0}
-Ended cost sound k (done a) = (k ≡ cost a) × sound a
-
--- answer 6, at some place
-abbrev pub Full : {A : Type 0} → Work A → Type 0
-Full m = (p : ℕ) × (m ≡ full p)
-
-pub record Measured {A : Type 0} (c : ℕ) (cost : A → ℕ) (sound : A → Type 0) (f : ℕ → Work A) : Type 0 where
-  pub need : ℕ
-  pub outcome : Work A
-  pub above : c ≤ need
-  pub ended : Ended cost sound need outcome
-  pub enough : (room : ℕ) → need ≤ room → f room ≡ outcome
-  pub short : (room : ℕ) → c ≤ room → room < need → Full (f room)
+use Rattle.theorems.specs.Counts.{Ended, Full, Measured, Covered}
 
 -- a number is below another or not
 either : (a b : ℕ) → (a < b) ⊎ (b ≤ a)
@@ -190,14 +170,11 @@ chosen :
 chosen true f′ g′ = f′
 chosen false f′ g′ = g′
 
-abbrev pub Sound : Standing → Type 0
-Sound s = length (s .items) ≤ s .count
-
 -- items added to what stands
 adds :
     (c at below : ℕ) (xs : List ℤ) (cost : Standing → ℕ)
     → max c (below + length xs) ≡ cost (record { items = xs; count = below + length xs })
-    → Measured c cost Sound (λ room. adding room at below xs)
+    → Measured c cost Covered (λ room. adding room at below xs)
 unfolding adding stand
 adds c at below xs cost e = tested c (max c (below + length xs)) (below + length xs) at refl (stood _ _ e (omega arith))
 
@@ -222,9 +199,9 @@ valued w (x ∷ xs) =
 
 -- the turns of a `for`
 looped :
-    (body : ℕ → ℤ → Work Standing) → ((x : ℤ) → Measured 0 (λ s. s .count) Sound (λ room. body room x))
+    (body : ℕ → ℤ → Work Standing) → ((x : ℤ) → Measured 0 (λ s. s .count) Covered (λ room. body room x))
     → (base count : ℕ) (results xs : List ℤ) → base + length results ≤ count
-    → Measured count (λ s. s .count) Sound (λ room. loop body room base count results xs)
+    → Measured count (λ s. s .count) Covered (λ room. loop body room base count results xs)
 unfolding loop stand
 looped body b base count results [] h = stood _ _ refl (omega arith)
 looped body b base count results (x ∷ xs) h =
@@ -233,7 +210,7 @@ looped body b base count results (x ∷ xs) h =
     looped body b base (max count (base + length results + s .count)) (results ++ s .items) xs
     (rw (length-append results (s .items)) (omega arith)))
 
-pub measured : (w : World) (e : Env) (q : Query) → Measured 0 (λ s. s .count) Sound (λ room. evaluate w room e q)
+pub measured : (w : World) (e : Env) (q : Query) → Measured 0 (λ s. s .count) Covered (λ room. evaluate w room e q)
 unfolding evaluate stand
 measured w e (QL at z) = adds 0 at 0 (z ∷ []) _ refl
 measured w e (QE at) = stood _ _ refl (omega arith)
@@ -317,5 +294,5 @@ pub counts :
     (w : World) (room : ℕ) (e : Env) (q : Query) (s : Standing) → evaluate w room e q ≡ done s
     → (length (s .items) ≤ s .count) × (s .count ≤ room)
 counts w room e q s d =
-    let m : Measured 0 (λ s. s .count) Sound (λ room. evaluate w room e q) = measured w e q in
+    let m : Measured 0 (λ s. s .count) Covered (λ room. evaluate w room e q) = measured w e q in
     (done-sound m room s (omega arith) d, done-fits m room s (omega arith) d)

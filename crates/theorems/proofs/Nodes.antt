@@ -1,36 +1,26 @@
 -- What a step and a root give (document 01, 'Query records'), and the laws of a world that plans rest on.
---     IsNode c y          y is the cell of a node of the catalogue
---     IsRoot c y          .. of level 0
---     Nodes c ys          ys are the cells of nodes of the catalogue by rising rank, and so each once
 --     step-nodes          what a step gives: nodes-inside, each is a node; nodes-rise, the cells rise
 --     root-node           what a root gives
---     Before a b          cell a stands before cell b
 --     rising-sorted       rising cells are sorted
---     Lawful w            the laws of a world: truth of nothing, a step from nothing, a step's result rises
 --     lawful c            the world of a catalogue is lawful
 use Prim.Native.Nat.{ℕ, zero, suc, _+_, _-_, _<_}
 use mathlib.Core.Path.{_≡_, refl, sym, ap, subst}
 use mathlib.Core.List.{List, [], _∷_, map}
-use mathlib.Core.Bool.{true, false, false≢true}
+use mathlib.Core.Bool.{false, false≢true}
 use native.Mathlib.Omega.{arith}
 use borrow.Author.Tests.{ltb-true, eqb-true, lt-ltb, le-ltb}
 use lib.IntN.{ℤ, pos, negsuc}
 use Rattle.cells.specs.declared.Axis.{Axis}
 use Rattle.cells.specs.declared.Test.{Test}
 use Rattle.cells.specs.Cell.{nodeCell, before}
-use Rattle.laws.specs.Lists.{any, below}
-use Rattle.laws.proofs.Lists.{All, Rising, all-any, all-both, all-map, rising-map, filter-none, all-kept, all-passed}
+use Rattle.laws.specs.Lists.{any, below, All, Rising}
+use Rattle.laws.proofs.Lists.{all-any, all-both, all-map, rising-map, filter-none, all-kept, all-passed}
 use Rattle.laws.proofs.Lists.{rising-kept, all-mapped, rising-mapped, all-below, rising-below}
 use Rattle.laws.specs.Attempt.{gives, attempt, Given}
 use Rattle.meaning.specs.Catalogue.{Catalogue}
-use Rattle.meaning.specs.World.{World, truth, ranksOf, reached, step, roots, member, rootOf, worldOf}
+use Rattle.meaning.specs.World.{truth, ranksOf, reached, step, roots, member, rootOf, worldOf}
 use Rattle.laws.proofs.Outcomes.{given-fails, given-gives, given-attempt, given-any}
-
-abbrev pub IsNode : Catalogue → ℤ → Type 0
-IsNode c y = (r : ℕ) × (y ≡ nodeCell r) × (r < c .rows)
-
-abbrev pub Before : ℤ → ℤ → Type 0
-Before a b = before a b ≡ true
+use Rattle.theorems.specs.Nodes.{IsNode, Before, Nodes, IsRoot, Lawful}
 
 -- a node of lower rank stands before
 node-before : (r s : ℕ) → r < s → Before (nodeCell r) (nodeCell s)
@@ -47,12 +37,6 @@ before-after (negsuc m) (negsuc n) h = le-ltb m n (omega (arith, ltb-true n m h)
 
 pub rising-sorted : (ys : List ℤ) → Rising Before ys → Rising (λ a b. before b a ≡ false) ys
 rising-sorted ys h = rising-map ys before-after h
-
-pub record Nodes (c : Catalogue) (ys : List ℤ) : Type 0 where
-  pub ranks : List ℕ
-  pub cells : ys ≡ map nodeCell ranks
-  pub inside : All (λ r. r < c .rows) ranks
-  pub rise : Rising (λ r s. r < s) ranks
 
 reached-nodes :
     (c : Catalogue) (axis : Axis) (test : Test) (xs : List ℕ) → Nodes c (map nodeCell (reached c axis test xs))
@@ -93,12 +77,6 @@ member-all P [] k h = given-fails
 member-all P (x ∷ xs) zero h = given-gives (h .0)
 member-all P (x ∷ xs) (suc k) h = member-all P xs k (h .1)
 
-pub record IsRoot (c : Catalogue) (y : ℤ) : Type 0 where
-  pub rank : ℕ
-  pub cell : y ≡ nodeCell rank
-  pub inside : rank < c .rows
-  pub top : c .level rank ≡ 0
-
 roots-all : (c : Catalogue) → All (λ r. (r < c .rows) × (c .level r ≡ 0)) (roots c)
 unfolding roots
 roots-all c =
@@ -116,11 +94,6 @@ pub root-node : (c : Catalogue) (k : ℕ) (y : ℤ) → rootOf c k ≡ gives y �
 root-node c k y e = rooted c k .given y e
 
 -- The laws that plans rest on
-
-pub record Lawful (w : World) : Type 0 where
-  pub truth-nothing : w .truth [] ≡ gives false
-  pub step-nothing : (axis : Axis) (test : Test) → w .step axis test [] ≡ gives []
-  pub step-rises : (axis : Axis) (test : Test) (xs ys : List ℤ) → w .step axis test xs ≡ gives ys → Rising Before ys
 
 -- nothing is reached from nothing
 step-from-nothing : (c : Catalogue) (axis : Axis) (test : Test) → step c axis test [] ≡ gives []

@@ -19,8 +19,9 @@ use Rattle.cells.specs.declared.Axis.{Axis}
 use Rattle.cells.specs.declared.Test.{Test}
 use Rattle.meaning.specs.Query.{Query, QL, QE, QR, QV, QS, QT, QF, QI, QO, QC, QD, QX, free}
 use Rattle.meaning.specs.Plan.{Op}
-use Rattle.theorems.proofs.Closed.{records}
-use Rattle.meaning.specs.Translation.{Made, Tables, freeIn, othersIn, lifts, ruleL, ruleR, ruleE, tailS, headF, tailF, headI, tailO, tailC, tailD, tailX, then, tr, tailLast, plan}
+use Rattle.theorems.specs.Closed.{records}
+use Rattle.meaning.specs.Translation.{Made, Tables, freeIn, othersIn, lifts, ruleL, ruleR, ruleE, tailS, headF, tailF}
+use Rattle.meaning.specs.Translation.{headI, tailO, tailC, tailD, tailX, then, tr, tailLast, plan}
 
 length-cond :
     {A : Type 0} (t : Bool) (x : A) (xs : List A) (n : ℕ) → length xs ≤ n → length (cond t (x ∷ xs) xs) ≤ suc n

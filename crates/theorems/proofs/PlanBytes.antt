@@ -1,8 +1,8 @@
 -- One operator's bytes read back as that operator (document 01, 'Items and cells' and 'Plan operators').
---     byte-at, word-first, columns-at, fits-at     reading past the bytes xs is reading from the start of what follows them
+--     byte-at, word-first, columns-at, fits-at     reading past the bytes xs is reading from the start of what follows
+--                                                  them
 --     plain-mag           an integer's or a boolean's cell is in the signed 64-bit range
 --     record-of m t rest  a record with the mark R m, the table t and the rest
---     Back o              the bytes of o, wherever they stand, read back as o
 --     operator-back       that holds of every writable operator
 --     operator-small      .. and its bytes are bytes
 --     operator-length     .. at most 12
@@ -24,16 +24,22 @@ use Rattle.cells.proofs.Bytes.{word-after, word-written, bits8-room, signed-bit
 use Rattle.cells.specs.declared.Function.{Function}
 use Rattle.cells.specs.declared.Function.the-variants.{Add, Subtract, Multiply, Divide, Equal, Less}
 use Rattle.cells.specs.declared.Axis.{Axis}
-use Rattle.cells.specs.declared.Axis.the-variants.{Child, Descendant, DescendantOrSelf, Itself, Parent, Ancestor, Following, Preceding}
+use Rattle.cells.specs.declared.Axis.the-variants.{Child, Descendant, DescendantOrSelf, Itself, Parent, Ancestor}
+use Rattle.cells.specs.declared.Axis.the-variants.{Following, Preceding}
 use Rattle.cells.specs.declared.Test.{Test}
 use Rattle.cells.specs.declared.Test.the-variants.{AnyNode, Element, Text, Named}
 use Rattle.laws.specs.Attempt.{Attempt, gives, attempt, provided}
 use Rattle.meaning.specs.Query.{fragmentOf}
 use Rattle.cells.specs.Codes.{functionOf, axisOf, testOf, functionNumber, axisNumber, testNumber, testName}
-use Rattle.meaning.specs.Plan.{Op, RT, RA, RP, RU, RD, RS, RJ, RN, RF, RV, RC, RE, RK, RX, RO, markRT, markRA, markRP, markRU, markRD, markRS, markRJ, markRN, markRF, markRC, markRE, markRK, markRX, markRO, plainIn, columnsAt, sized, attachAt, projectAt, numberAt, functionAt, stepAt, operatorOf, operatorAt}
+use Rattle.meaning.specs.Plan.{Op, RT, RA, RP, RU, RD, RS, RJ, RN, RF, RV, RC, RE, RK, RX, RO, markRT, markRA, markRP}
+use Rattle.meaning.specs.Plan.{markRU, markRD, markRS, markRJ, markRN, markRF, markRC, markRE, markRK, markRX, markRO}
+use Rattle.meaning.specs.Plan.{plainIn, columnsAt, sized, attachAt, projectAt, numberAt, functionAt, stepAt, operatorOf}
+use Rattle.meaning.specs.Plan.{operatorAt}
 use Rattle.meaning.specs.Written.{operatorBytes}
-use Rattle.theorems.proofs.PlanWidths.{Every, every-append}
-use Rattle.theorems.proofs.PlanFields.{Writable}
+use Rattle.theorems.proofs.PlanWidths.{every-append}
+use Rattle.theorems.specs.PlanWidths.{Every}
+use Rattle.theorems.specs.PlanFields.{Writable}
+use Rattle.theorems.specs.PlanBytes.{Back, Byte}
 
 -- Reading past xs
 
@@ -166,11 +172,6 @@ module _ (xs : List ℕ) (m t : ℕ) (h : t < 65536) (rest : List ℕ) where
   record-back n o r k p q =
       operator-marked (xs ++ record-of m t rest) (length xs) (0x5200 + m) _ mark-back
       (q ∙ sized-at xs (record-of m t rest) n o r (omega arith) p)
-
-abbrev pub Back : Op → Type 0
-Back o =
-    (xs ys : List ℕ) →
-    operatorAt (xs ++ (operatorBytes o ++ ys)) (length xs) ≡ gives (o, length xs + length (operatorBytes o))
 
 back-RE : (t : ℕ) → t < 65536 → Back (RE t)
 unfolding operatorBytes bytesOf operatorOf
@@ -397,9 +398,6 @@ pub operator-back :
 operator-back o xs ys w = rw append-assoc (writable-back o w xs ys)
 
 -- every byte of a writable operator is a byte
-
-abbrev pub Byte : ℕ → Type 0
-Byte b = b < 256
 
 bytes-small : (n u : ℕ) → Every Byte (bytesOf n u)
 unfolding bytesOf Every

@@ -1,10 +1,4 @@
 -- A translated plan is sound (document 01, 'Plan operators' and 'Translation').
---     widths ws os      the widths of all tables when os follow tables of widths ws, or that an operator does not fit
---     Wide ws t w       among tables of widths ws there is a table t, and it is w wide
---     Fits ws o w       operator o fits tables of widths ws and makes one of width w
---     Ends ws os us     operators os fit one after another, and leave tables of widths us
---     Sound ws x        the operators of x fit, and its result is 3 wide
---     Env ws e vs       the table of each variable of vs is 3 wide
 --     tr-sound          under a loop table of width 1 and variables of width 3 each rule is sound
 --     plan-widths       the widths of a whole plan, the last of them 3
 use Prim.Native.Nat.{ℕ, zero, suc, _+_, _<_}
@@ -23,18 +17,16 @@ use Rattle.cells.specs.declared.Function.{Function}
 use Rattle.cells.specs.declared.Axis.{Axis}
 use Rattle.cells.specs.declared.Test.{Test}
 use Rattle.laws.specs.Attempt.{Attempt, fails, gives, attempt, provided}
-use Rattle.laws.proofs.Booleans.{both-true}
 use Rattle.meaning.specs.Query.{Query, QL, QE, QR, QV, QS, QT, QF, QI, QO, QC, QD, QX, free, bound}
-use Rattle.meaning.specs.Plan.{Op, RT, RA, RP, RU, RD, RS, RJ, RN, RF, RV, RC, RE, RK, RX, RO, tableWidth, upTo6, columns, widthOf}
-use Rattle.meaning.specs.Translation.{Made, Tables, next, hold, freeIn, othersIn, lifts, lifted, ruleL, ruleR, ruleE, tailS, headF, tailF, headI, tailO, tailC, tailD, tailX, then, tr, tailLast, plan}
-use Rattle.theorems.proofs.Closed.{Closed, free-bound}
+use Rattle.meaning.specs.Plan.{Op, RT, RA, RP, RU, RD, RS, RJ, RN, RF, RV, RC, RE, RK, RX, RO, tableWidth, upTo6}
+use Rattle.meaning.specs.Plan.{columns, widthOf}
+use Rattle.meaning.specs.Translation.{Made, Tables, next, hold, freeIn, othersIn, lifts, lifted, ruleL, ruleR, ruleE}
+use Rattle.meaning.specs.Translation.{tailS, headF, tailF, headI, tailO, tailC, tailD, tailX, then, tr, tailLast, plan}
+use Rattle.theorems.proofs.Closed.{free-bound}
+use Rattle.theorems.specs.Closed.{Closed}
+use Rattle.theorems.specs.PlanWidths.{Every, widths, TableWide, Fits, Ends, Steps, WellMade, Env}
 
 -- Lists, tests and attempts
-
--- what holds of every member
-unfoldable pub Every : {A : Type 0} → (A → Type 0) → List A → Type 0
-Every P [] = Unit
-Every P (x ∷ xs) = P x × Every P xs
 
 pub every-getD : (P : ℕ → Type 0) (xs : List ℕ) (i : ℕ) → Every P xs → i < length xs → P (getD xs i 0)
 unfolding Every
@@ -94,32 +86,9 @@ provided-gives false a x e = let z : _≡_ {A = ℕ} 0 1 = cc in absurd (omega a
 
 -- Widths
 
-unfoldable pub widths : List ℕ → List Op → Attempt (List ℕ)
-widths ws [] = gives ws
-widths ws (o ∷ os) = attempt (widthOf ws o) (λ w. widths (ws ++ (w ∷ [])) os)
-
-pub record Wide (ws : List ℕ) (t w : ℕ) : Type 0 where
-  pub there : t < length ws
-  pub is : getD ws t 0 ≡ w
-
-pub record Fits (ws : List ℕ) (o : Op) (w : ℕ) : Type 0 where
-  pub is : widthOf ws o ≡ gives w
-
-pub record Ends (ws : List ℕ) (os : List Op) (us : List ℕ) : Type 0 where
-  pub is : widths ws os ≡ gives us
-
--- the operators of a rule, once it has itself made tables of widths vs
-pub record Steps (ws vs : List ℕ) (os : List Op) (us : List ℕ) : Type 0 where
-  pub is : widths (ws ++ vs) os ≡ gives (ws ++ us)
-
-pub record Sound (ws : List ℕ) (x : Made) : Type 0 where
-  pub after : List ℕ
-  pub ends : Ends ws (x .ops) after
-  pub result : Wide after (x .result) 3
-
 -- Tables that are there stay there
 
-table-wide : {ws : List ℕ} {t w : ℕ} → Wide ws t w → tableWidth ws t ≡ gives w
+table-wide : {ws : List ℕ} {t w : ℕ} → TableWide ws t w → tableWidth ws t ≡ gives w
 unfolding tableWidth provided
 table-wide {ws} {t} h = rw (lt-ltb t (length ws) (h .there), h .is)
 
@@ -127,89 +96,90 @@ table-wide {ws} {t} h = rw (lt-ltb t (length ws) (h .there), h .is)
 
 module _ {ws : List ℕ} where
   -- what a table's width, or two tables' widths, come to
-  one : {t w v : ℕ} (f : ℕ → Attempt ℕ) → Wide ws t w → f w ≡ gives v → attempt (tableWidth ws t) f ≡ gives v
+  one : {t w v : ℕ} (f : ℕ → Attempt ℕ) → TableWide ws t w → f w ≡ gives v → attempt (tableWidth ws t) f ≡ gives v
   one {t} f h p = attempt-of (tableWidth ws t) f (table-wide h) p
 
   two :
       {t u w v x : ℕ} (f : ℕ → ℕ → Attempt ℕ) →
-      Wide ws t w → Wide ws u v → f w v ≡ gives x →
+      TableWide ws t w → TableWide ws u v → f w v ≡ gives x →
       attempt (tableWidth ws t) (λ w. attempt (tableWidth ws u) (f w)) ≡ gives x
   two {u} {w} f h k p = one (λ w. attempt (tableWidth ws u) (f w)) h (one (f w) k p)
 
-  fit-RA : {t w : ℕ} {z : ℤ} → Wide ws t w → leb (w + 1) 6 ≡ true → Fits ws (RA t z) (w + 1)
+  fit-RA : {t w : ℕ} {z : ℤ} → TableWide ws t w → leb (w + 1) 6 ≡ true → Fits ws (RA t z) (w + 1)
   unfolding widthOf upTo6 provided
   fit-RA h p = record { is = one (λ w. upTo6 (w + 1)) h (rw p) }
 
   fit-RP :
-      {t w : ℕ} {cs : List ℕ} → Wide ws t w → columns w cs ≡ true → leb (length cs) 6 ≡ true →
+      {t w : ℕ} {cs : List ℕ} → TableWide ws t w → columns w cs ≡ true → leb (length cs) 6 ≡ true →
       Fits ws (RP t cs) (length cs)
   unfolding widthOf upTo6 provided
   fit-RP {cs} h p q = record { is = one (λ w. provided (columns w cs) (upTo6 (length cs))) h (rw (p, q)) }
 
-  fit-RU : {t u w : ℕ} → Wide ws t w → Wide ws u w → Fits ws (RU t u) w
+  fit-RU : {t u w : ℕ} → TableWide ws t w → TableWide ws u w → Fits ws (RU t u) w
   unfolding widthOf provided
   fit-RU {w} h k = record { is = two (λ w v. provided (eqb w v) (gives w)) h k (rw (eq-eqb w w refl)) }
 
-  fit-RD : {t u w : ℕ} → Wide ws t w → Wide ws u w → Fits ws (RD t u) w
+  fit-RD : {t u w : ℕ} → TableWide ws t w → TableWide ws u w → Fits ws (RD t u) w
   unfolding widthOf provided
   fit-RD {w} h k = record { is = two (λ w v. provided (eqb w v) (gives w)) h k (rw (eq-eqb w w refl)) }
 
-  fit-RS : {t w c : ℕ} → Wide ws t w → ltb c w ≡ true → Fits ws (RS t c) w
+  fit-RS : {t w c : ℕ} → TableWide ws t w → ltb c w ≡ true → Fits ws (RS t c) w
   unfolding widthOf provided
   fit-RS {c} h p = record { is = one (λ w. provided (ltb c w) (gives w)) h (rw p) }
 
   fit-RJ :
-      {t u w v c d : ℕ} → Wide ws t w → Wide ws u v → ltb c w && ltb d v ≡ true → leb (w + v) 6 ≡ true →
+      {t u w v c d : ℕ} → TableWide ws t w → TableWide ws u v → ltb c w && ltb d v ≡ true → leb (w + v) 6 ≡ true →
       Fits ws (RJ t c u d) (w + v)
   unfolding widthOf upTo6 provided
   fit-RJ {c} {d} h k p q = record { is = two (λ w v. provided (ltb c w && ltb d v) (upTo6 (w + v))) h k (rw (p, q)) }
 
   fit-RN :
-      {t p w : ℕ} {ks : List ℕ} → Wide ws t w → (eqb p 255 || ltb p w) && columns w ks ≡ true → leb (w + 1) 6 ≡ true →
+      {t p w : ℕ} {ks : List ℕ} → TableWide ws t w → (eqb p 255 || ltb p w) && columns w ks ≡ true
+      → leb (w + 1) 6 ≡ true →
       Fits ws (RN t p ks) (w + 1)
   unfolding widthOf upTo6 provided
   fit-RN {p} {ks} h a b =
       record { is = one (λ w. provided ((eqb p 255 || ltb p w) && columns w ks) (upTo6 (w + 1))) h (rw (a, b)) }
 
   fit-RF :
-      {t w c d : ℕ} {f : Function} → Wide ws t w → ltb c w && ltb d w ≡ true → leb (w + 1) 6 ≡ true →
+      {t w c d : ℕ} {f : Function} → TableWide ws t w → ltb c w && ltb d w ≡ true → leb (w + 1) 6 ≡ true →
       Fits ws (RF t f c d) (w + 1)
   unfolding widthOf upTo6 provided
   fit-RF {c} {d} h p q = record { is = one (λ w. provided (ltb c w && ltb d w) (upTo6 (w + 1))) h (rw (p, q)) }
 
-  fit-RV : {t w c : ℕ} → Wide ws t w → ltb c w ≡ true → leb (w + 1) 6 ≡ true → Fits ws (RV t c) (w + 1)
+  fit-RV : {t w c : ℕ} → TableWide ws t w → ltb c w ≡ true → leb (w + 1) 6 ≡ true → Fits ws (RV t c) (w + 1)
   unfolding widthOf upTo6 provided
   fit-RV {c} h p q = record { is = one (λ w. provided (ltb c w) (upTo6 (w + 1))) h (rw (p, q)) }
 
-  fit-RC : {t w c : ℕ} → Wide ws t w → ltb c w ≡ true → Fits ws (RC t c) 2
+  fit-RC : {t w c : ℕ} → TableWide ws t w → ltb c w ≡ true → Fits ws (RC t c) 2
   unfolding widthOf provided
   fit-RC {c} h p = record { is = one (λ w. provided (ltb c w) (gives 2)) h (rw p) }
 
-  fit-RE : {t : ℕ} → Wide ws t 3 → Fits ws (RE t) 2
+  fit-RE : {t : ℕ} → TableWide ws t 3 → Fits ws (RE t) 2
   unfolding widthOf provided
   fit-RE h = record { is = one (λ w. provided (eqb w 3) (gives 2)) h refl }
 
-  fit-RK : {t w c : ℕ} → Wide ws t w → ltb c w ≡ true → Fits ws (RK t c) w
+  fit-RK : {t w c : ℕ} → TableWide ws t w → ltb c w ≡ true → Fits ws (RK t c) w
   unfolding widthOf provided
   fit-RK {c} h p = record { is = one (λ w. provided (ltb c w) (gives w)) h (rw p) }
 
-  fit-RX : {t : ℕ} {x : Axis} {y : Test} → Wide ws t 2 → Fits ws (RX t x y) 2
+  fit-RX : {t : ℕ} {x : Axis} {y : Test} → TableWide ws t 2 → Fits ws (RX t x y) 2
   unfolding widthOf provided
   fit-RX h = record { is = one (λ w. provided (eqb w 2) (gives 2)) h refl }
 
-  fit-RO : {t w k : ℕ} → Wide ws t w → leb (w + 1) 6 ≡ true → Fits ws (RO t k) (w + 1)
+  fit-RO : {t w k : ℕ} → TableWide ws t w → leb (w + 1) 6 ≡ true → Fits ws (RO t k) (w + 1)
   unfolding widthOf upTo6 provided
   fit-RO h p = record { is = one (λ w. upTo6 (w + 1)) h (rw p) }
 
 -- Operators one after another
 
-wide-old : (ws vs : List ℕ) {t w : ℕ} → Wide ws t w → Wide (ws ++ vs) t w
+wide-old : (ws vs : List ℕ) {t w : ℕ} → TableWide ws t w → TableWide (ws ++ vs) t w
 wide-old ws vs {t} h =
     record { there = simp length-append (omega arith); is = List·getD-append ws vs 0 t (h .there) ∙ h .is }
 
-widths-kept : {t w : ℕ} (os : List Op) (ws us : List ℕ) → widths ws os ≡ gives us → Wide ws t w → Wide us t w
+widths-kept : {t w : ℕ} (os : List Op) (ws us : List ℕ) → widths ws os ≡ gives us → TableWide ws t w → TableWide us t w
 unfolding widths
-widths-kept {t} {w} [] ws us e h = subst (λ us. Wide us t w) (cc) h
+widths-kept {t} {w} [] ws us e h = subst (λ us. TableWide us t w) (cc) h
 widths-kept (o ∷ os) ws us e h =
     let (w, p, q) = attempt-gives (widthOf ws o) (λ w. widths (ws ++ (w ∷ [])) os) us e in
     widths-kept os (ws ++ (w ∷ [])) us q (wide-old ws (w ∷ []) h)
@@ -231,7 +201,7 @@ widths-then (o ∷ os) ps ws us vs e f =
     let (w, p, q) = attempt-gives (widthOf ws o) (λ w. widths (ws ++ (w ∷ [])) os) us e in
     attempt-of (widthOf ws o) (λ w. widths (ws ++ (w ∷ [])) (os ++ ps)) p (widths-then os ps (ws ++ (w ∷ [])) us vs q f)
 
-kept : {ws us : List ℕ} {os : List Op} {t w : ℕ} → Ends ws os us → Wide ws t w → Wide us t w
+kept : {ws us : List ℕ} {os : List Op} {t w : ℕ} → Ends ws os us → TableWide ws t w → TableWide us t w
 kept {ws} {us} {os} x h = widths-kept os ws us (x .is) h
 
 count : {ws us : List ℕ} {os : List Op} {n : ℕ} → Ends ws os us → n ≡ length ws → n + length os ≡ length us
@@ -240,7 +210,7 @@ count {ws} {us} {os} x e = omega (arith, widths-count os ws us (x .is))
 ends-then : {ws us vs : List ℕ} {os ps : List Op} → Ends ws os us → Ends us ps vs → Ends ws (os ++ ps) vs
 ends-then {ws} {us} {vs} {os} {ps} x y = record { is = widths-then os ps ws us vs (x .is) (y .is) }
 
-sound-then : {ws us : List ℕ} {os : List Op} {y : Made} → Ends ws os us → Sound us y → Sound ws (then os y)
+sound-then : {ws us : List ℕ} {os : List Op} {y : Made} → Ends ws os us → WellMade us y → WellMade ws (then os y)
 unfolding then
 sound-then x y = record { after = y .after; ends = ends-then x (y .ends); result = y .result }
 
@@ -251,13 +221,13 @@ ends-none = record { is = refl }
 -- The rules: the operators of a rule by themselves, after n tables of widths ws
 
 module _ (ws : List ℕ) {n : ℕ} (e : n ≡ length ws) where
-  old : (vs : List ℕ) {t w : ℕ} → Wide ws t w → Wide (ws ++ vs) t w
+  old : (vs : List ℕ) {t w : ℕ} → TableWide ws t w → TableWide (ws ++ vs) t w
   old vs h = wide-old ws vs h
 
-  first : (v : ℕ) (vs : List ℕ) → Wide (ws ++ v ∷ vs) n v
+  first : (v : ℕ) (vs : List ℕ) → TableWide (ws ++ v ∷ vs) n v
   first v vs = record { there = simp length-append (omega arith); is = rw e (getD-append-seam ws v vs 0) }
 
-  new : (vs : List ℕ) (j : ℕ) → T (ltb j (length vs)) → Wide (ws ++ vs) (n + j) (getD vs j 0)
+  new : (vs : List ℕ) (j : ℕ) → T (ltb j (length vs)) → TableWide (ws ++ vs) (n + j) (getD vs j 0)
   new vs j h =
       record {
         there = simp length-append (omega (arith, ltb→lt j (length vs) h));
@@ -279,25 +249,25 @@ module _ (ws : List ℕ) {n : ℕ} (e : n ≡ length ws) where
   steps : {os : List Op} {us : List ℕ} → Steps ws [] os us → Ends ws os (ws ++ us)
   steps {os} {us} h = record { is = subst (λ xs. widths xs os ≡ gives (ws ++ us)) (append-nil ws) (h .is) }
 
-  made : {x : Made} (us : List ℕ) → Steps ws [] (x .ops) us → Wide (ws ++ us) (x .result) 3 → Sound ws x
+  made : {x : Made} (us : List ℕ) → Steps ws [] (x .ops) us → TableWide (ws ++ us) (x .result) 3 → WellMade ws x
   made us h r = record { after = ws ++ us; ends = steps h; result = r }
 
-  sound-L : {l : ℕ} (z : ℤ) → Wide ws l 1 → Sound ws (ruleL n l z)
+  sound-L : {l : ℕ} (z : ℤ) → TableWide ws l 1 → WellMade ws (ruleL n l z)
   unfolding ruleL
   sound-L z hl = made (2 ∷ 3 ∷ []) (step (fit-RA (old _ hl) refl) (step (fit-RA (first _ _) refl) end)) (new _ 1 tt)
 
-  sound-R : {l : ℕ} (k : ℕ) → Wide ws l 1 → Sound ws (ruleR n l k)
+  sound-R : {l : ℕ} (k : ℕ) → TableWide ws l 1 → WellMade ws (ruleR n l k)
   unfolding ruleR
   sound-R k hl = made (2 ∷ 3 ∷ []) (step (fit-RA (old _ hl) refl) (step (fit-RO (first _ _) refl) end)) (new _ 1 tt)
 
-  sound-E : {l : ℕ} → Wide ws l 1 → Sound ws (ruleE n l)
+  sound-E : {l : ℕ} → TableWide ws l 1 → WellMade ws (ruleE n l)
   unfolding ruleE
   sound-E hl =
       made (2 ∷ 3 ∷ 3 ∷ [])
       (step (fit-RA (old _ hl) refl) (step (fit-RA (first _ _) refl) (step (fit-RD (new _ 1 tt) (new _ 1 tt)) end)))
       (new _ 2 tt)
 
-  sound-S : {a b : ℕ} → Wide ws a 3 → Wide ws b 3 → Sound ws (tailS n a b)
+  sound-S : {a b : ℕ} → TableWide ws a 3 → TableWide ws b 3 → WellMade ws (tailS n a b)
   unfolding tailS columns all
   sound-S ha hb =
       made (4 ∷ 4 ∷ 4 ∷ 5 ∷ 3 ∷ [])
@@ -308,7 +278,7 @@ module _ (ws : List ℕ) {n : ℕ} (e : n ≡ length ws) where
       (step (fit-RP (new _ 3 tt) refl refl) end)))))
       (new _ 4 tt)
 
-  ends-F : {a : ℕ} → Wide ws a 3 → Ends ws (headF n a) (ws ++ (4 ∷ 5 ∷ 3 ∷ 1 ∷ 2 ∷ []))
+  ends-F : {a : ℕ} → TableWide ws a 3 → Ends ws (headF n a) (ws ++ (4 ∷ 5 ∷ 3 ∷ 1 ∷ 2 ∷ []))
   unfolding headF columns all
   ends-F ha =
       steps
@@ -318,7 +288,7 @@ module _ (ws : List ℕ) {n : ℕ} (e : n ≡ length ws) where
       (step (fit-RP (first _ _) refl refl)
       (step (fit-RP (first _ _) refl refl) end)))))
 
-  sound-F : {b m : ℕ} → Wide ws b 3 → Wide ws m 2 → Sound ws (tailF n b m)
+  sound-F : {b m : ℕ} → TableWide ws b 3 → TableWide ws m 2 → WellMade ws (tailF n b m)
   unfolding tailF columns all
   sound-F hb hm =
       made (5 ∷ 6 ∷ 3 ∷ [])
@@ -327,7 +297,7 @@ module _ (ws : List ℕ) {n : ℕ} (e : n ≡ length ws) where
       (step (fit-RP (new _ 1 tt) refl refl) end)))
       (new _ 2 tt)
 
-  ends-I : {l c : ℕ} → Wide ws l 1 → Wide ws c 3 → Ends ws (headI n l c) (ws ++ (2 ∷ 2 ∷ 1 ∷ 1 ∷ []))
+  ends-I : {l c : ℕ} → TableWide ws l 1 → TableWide ws c 3 → Ends ws (headI n l c) (ws ++ (2 ∷ 2 ∷ 1 ∷ 1 ∷ []))
   unfolding headI columns all
   ends-I hl hc =
       steps
@@ -336,10 +306,10 @@ module _ (ws : List ℕ) {n : ℕ} (e : n ≡ length ws) where
       (step (fit-RP (new _ 1 tt) refl refl)
       (step (fit-RD (old _ hl) (new _ 2 tt)) end))))
 
-  sound-U : {a b : ℕ} → Wide ws a 3 → Wide ws b 3 → Sound ws (record { ops = RU a b ∷ []; result = n })
+  sound-U : {a b : ℕ} → TableWide ws a 3 → TableWide ws b 3 → WellMade ws (record { ops = RU a b ∷ []; result = n })
   sound-U ha hb = made (3 ∷ []) (step (fit-RU (old _ ha) (old _ hb)) end) (first _ _)
 
-  sound-O : {a b : ℕ} (f : Function) → Wide ws a 3 → Wide ws b 3 → Sound ws (tailO n f a b)
+  sound-O : {a b : ℕ} (f : Function) → TableWide ws a 3 → TableWide ws b 3 → WellMade ws (tailO n f a b)
   unfolding tailO columns all
   sound-O f ha hb =
       made (3 ∷ 3 ∷ 6 ∷ 4 ∷ 5 ∷ 3 ∷ [])
@@ -351,7 +321,7 @@ module _ (ws : List ℕ) {n : ℕ} (e : n ≡ length ws) where
       (step (fit-RP (new _ 4 tt) refl refl) end))))))
       (new _ 5 tt)
 
-  sound-C : {l a : ℕ} → Wide ws l 1 → Wide ws a 3 → Sound ws (tailC n l a)
+  sound-C : {l a : ℕ} → TableWide ws l 1 → TableWide ws a 3 → WellMade ws (tailC n l a)
   unfolding tailC columns all
   sound-C hl ha =
       made (2 ∷ 1 ∷ 1 ∷ 2 ∷ 2 ∷ 3 ∷ 3 ∷ [])
@@ -364,12 +334,12 @@ module _ (ws : List ℕ) {n : ℕ} (e : n ≡ length ws) where
       (step (fit-RP (new _ 5 tt) refl refl) end)))))))
       (new _ 6 tt)
 
-  sound-D : {a : ℕ} → Wide ws a 3 → Sound ws (tailD n a)
+  sound-D : {a : ℕ} → TableWide ws a 3 → WellMade ws (tailD n a)
   unfolding tailD columns all
   sound-D ha =
       made (4 ∷ 3 ∷ []) (step (fit-RV (old _ ha) refl refl) (step (fit-RP (first _ _) refl refl) end)) (new _ 1 tt)
 
-  sound-X : {a : ℕ} (x : Axis) (y : Test) → Wide ws a 3 → Sound ws (tailX n x y a)
+  sound-X : {a : ℕ} (x : Axis) (y : Test) → TableWide ws a 3 → WellMade ws (tailX n x y a)
   unfolding tailX columns all
   sound-X x y ha =
       made (2 ∷ 2 ∷ 3 ∷ 3 ∷ [])
@@ -379,7 +349,7 @@ module _ (ws : List ℕ) {n : ℕ} (e : n ≡ length ws) where
       (step (fit-RP (new _ 2 tt) refl refl) end))))
       (new _ 3 tt)
 
-  ends-last : {a : ℕ} → Wide ws a 3 → Ends ws (tailLast n a) (ws ++ (4 ∷ 3 ∷ []))
+  ends-last : {a : ℕ} → TableWide ws a 3 → Ends ws (tailLast n a) (ws ++ (4 ∷ 3 ∷ []))
   unfolding tailLast columns all
   ends-last ha = steps (step (fit-RN (old _ ha) refl refl) (step (fit-RP (first _ _) refl refl) end))
 
@@ -391,20 +361,18 @@ bound-inner v u vs p h = rw p at h
 
 -- the variables in scope have tables of width 3
 
-pub record Env (ws : List ℕ) (e : Tables) (vs : List ℕ) : Type 0 where
-  pub at : (v : ℕ) → bound v vs ≡ true → Wide ws (e v) 3
-
 env-kept : {ws us : List ℕ} {os : List Op} {e : Tables} {vs : List ℕ} → Ends ws os us → Env ws e vs → Env us e vs
 env-kept x h = record { at = λ v b. kept x (h .at v b) }
 
 cond-wide :
-    {ws : List ℕ} {t u w : ℕ} (b : Bool) → (b ≡ true → Wide ws t w) → (b ≡ false → Wide ws u w) →
-    Wide ws (cond b t u) w
+    {ws : List ℕ} {t u w : ℕ} (b : Bool) → (b ≡ true → TableWide ws t w) → (b ≡ false → TableWide ws u w) →
+    TableWide ws (cond b t u) w
 cond-wide true f g = f refl
 cond-wide false f g = g refl
 
 env-hold :
-    {ws : List ℕ} {t : ℕ} {e : Tables} {vs : List ℕ} (v : ℕ) → Wide ws t 3 → Env ws e vs → Env ws (hold v t e) (v ∷ vs)
+    {ws : List ℕ} {t : ℕ} {e : Tables} {vs : List ℕ} (v : ℕ) → TableWide ws t 3 → Env ws e vs
+    → Env ws (hold v t e) (v ∷ vs)
 unfolding hold
 env-hold {vs} v ht h =
     record { at = λ u b. cond-wide (eqb u v) (λ p. ht) (λ p. h .at u (bound-inner u v vs p b)) }
@@ -414,7 +382,7 @@ env-hold {vs} v ht h =
 record Lifted (ws : List ℕ) (e : Tables) (os : List Op) (f : Tables) : Type 0 where
   after : List ℕ
   ends : Ends ws os after
-  held : (u : ℕ) → Wide ws (e u) 3 → Wide after (f u) 3
+  held : (u : ℕ) → TableWide ws (e u) 3 → TableWide after (f u) 3
 
 module _
     (m i a b c : ℕ)
@@ -423,14 +391,15 @@ module _
     (r : columns (3 + i) (a ∷ b ∷ c ∷ []) ≡ true)
   where
     lift-one :
-        (ws : List ℕ) {n t : ℕ} → n ≡ length ws → Wide ws t 3 → Wide ws m i →
+        (ws : List ℕ) {n t : ℕ} → n ≡ length ws → TableWide ws t 3 → TableWide ws m i →
         Ends ws (RJ t 0 m 0 ∷ RP n (a ∷ b ∷ c ∷ []) ∷ []) (ws ++ ((3 + i) ∷ 3 ∷ []))
     lift-one ws e ht hm =
         steps ws e
         (step ws e (fit-RJ (old ws e _ ht) (old ws e _ hm) q p) (step ws e (fit-RP (first ws e _ _) r refl) (end ws e)))
 
     lift :
-        (us : List ℕ) (ws : List ℕ) (n : ℕ) (e : Tables) → n ≡ length ws → Every (λ u. Wide ws (e u) 3) us → Wide ws m i →
+        (us : List ℕ) (ws : List ℕ) (n : ℕ) (e : Tables) → n ≡ length ws → Every (λ u. TableWide ws (e u) 3) us
+        → TableWide ws m i →
         Lifted ws e (lifts e m (a ∷ b ∷ c ∷ []) n us) (lifted e n us)
     unfolding lifts lifted Every hold
     lift [] ws n e en h hm = record { after = ws; ends = ends-none; held = λ u k. k }
@@ -442,7 +411,8 @@ module _
         record {
           after = rest .after;
           ends = ends-then one (rest .ends);
-          held = λ u k. cond-wide (eqb u v) (λ _. kept (rest .ends) (new ws en _ 1 tt)) (λ _. rest .held u (kept one k));
+          held =
+              λ u k. cond-wide (eqb u v) (λ _. kept (rest .ends) (new ws en _ 1 tt)) (λ _. rest .held u (kept one k));
         }
 
 -- the variables free in a part are lifted; those that are not lifted keep their tables
@@ -453,17 +423,17 @@ env-lifted x h = record { at = λ u b. x .held u (h .at u b) }
 
 free-wide :
     {ws : List ℕ} {e : Tables} {vs : List ℕ} (q : Query) → Closed q vs → Env ws e vs →
-    Every (λ u. Wide ws (e u) 3) (freeIn q)
+    Every (λ u. TableWide ws (e u) 3) (freeIn q)
 unfolding freeIn
 free-wide {ws} {e} {vs} q c h =
-    every-filter (λ u. Wide ws (e u) 3) (λ v. free v q) (λ v f. h .at v (free-bound q vs v c f .0)) (below 8)
+    every-filter (λ u. TableWide ws (e u) 3) (λ v. free v q) (λ v f. h .at v (free-bound q vs v c f .0)) (below 8)
 
 others-wide :
     {ws : List ℕ} {e : Tables} {vs : List ℕ} (v : ℕ) (q : Query) → Closed q (v ∷ vs) → Env ws e vs →
-    Every (λ u. Wide ws (e u) 3) (othersIn v q)
+    Every (λ u. TableWide ws (e u) 3) (othersIn v q)
 unfolding othersIn
 others-wide {ws} {e} {vs} v q c h =
-    every-filter (λ u. Wide ws (e u) 3) (λ u. not (eqb u v) && free u q)
+    every-filter (λ u. TableWide ws (e u) 3) (λ u. not (eqb u v) && free u q)
     (λ u. other-true (eqb u v) (free u q) (λ n f. h .at u (bound-inner u v vs n (free-bound q (v ∷ vs) u c f .0))))
     (below 8)
 
@@ -471,8 +441,8 @@ others-wide {ws} {e} {vs} v q c h =
 
 abbrev Keeps : Query → Type 0
 Keeps q =
-    (vs ws : List ℕ) (n l : ℕ) (e : Tables) → Closed q vs → n ≡ length ws → Wide ws l 1 → Env ws e vs →
-    Sound ws (tr q n l e)
+    (vs ws : List ℕ) (n l : ℕ) (e : Tables) → Closed q vs → n ≡ length ws → TableWide ws l 1 → Env ws e vs →
+    WellMade ws (tr q n l e)
 
 keeps-QV : (at v : ℕ) → Keeps (QV at v)
 unfolding tr
@@ -530,7 +500,8 @@ forTail b k l map f =
 
 sound-forTail :
     (b : Query) (vs ws : List ℕ) (k l map : ℕ) (f : Tables) → Keeps b →
-    Closed b vs → k ≡ length ws → Wide ws l 1 → Wide ws map 2 → Env ws f vs → Sound ws (forTail b k l map f)
+    Closed b vs → k ≡ length ws → TableWide ws l 1 → TableWide ws map 2 → Env ws f vs
+    → WellMade ws (forTail b k l map f)
 unfolding next
 sound-forTail b vs ws k l map f hb c ek hl hm h =
     let y = hb vs ws k l f c ek hl h in
@@ -545,7 +516,7 @@ forBody v b m r e =
 
 sound-for :
     (v : ℕ) (b : Query) (vs ws : List ℕ) (m r : ℕ) (e : Tables) → Keeps b →
-    Closed b (v ∷ vs) → m ≡ length ws → Wide ws r 3 → Env ws e vs → Sound ws (forBody v b m r e)
+    Closed b (v ∷ vs) → m ≡ length ws → TableWide ws r 3 → Env ws e vs → WellMade ws (forBody v b m r e)
 unfolding headF columns all
 sound-for v b vs ws m r e hb c em hr h =
     let head = ends-F ws em hr in
@@ -570,13 +541,14 @@ keeps-QF at v a b ha hb vs ws n l e c en hl h =
 -- a branch of `if` under loop table l, the lifted variables first; then what follows it
 branch :
     (q : Query) (vs ws : List ℕ) (n l : ℕ) (e : Tables) → Keeps q →
-    Closed q vs → n ≡ length ws → Wide ws l 1 → Env ws e vs →
+    Closed q vs → n ≡ length ws → TableWide ws l 1 → Env ws e vs →
     let os = lifts e l (0 ∷ 1 ∷ 2 ∷ []) n (freeIn q) in
     let x = tr q (n + length os) l (lifted e n (freeIn q)) in
     (y : Made) →
     ((us : List ℕ) →
-    Ends ws (os ++ x .ops) us → n + length os + length (x .ops) ≡ length us → Wide us (x .result) 3 → Sound us y) →
-    Sound ws (then os (then (x .ops) y))
+    Ends ws (os ++ x .ops) us → n + length os + length (x .ops) ≡ length us → TableWide us (x .result) 3
+    → WellMade us y) →
+    WellMade ws (then os (then (x .ops) y))
 unfolding columns all
 branch q vs ws n l e hq c en hl h y go =
     let os = lift l 1 0 1 2 refl refl refl (freeIn q) ws n e en (free-wide q c h) hl in
@@ -595,7 +567,7 @@ elseBody b j l r e =
 
 sound-else :
     (b : Query) (vs ws : List ℕ) (j l r : ℕ) (e : Tables) → Keeps b →
-    Closed b vs → j ≡ length ws → Wide ws l 1 → Wide ws r 3 → Env ws e vs → Sound ws (elseBody b j l r e)
+    Closed b vs → j ≡ length ws → TableWide ws l 1 → TableWide ws r 3 → Env ws e vs → WellMade ws (elseBody b j l r e)
 unfolding next
 sound-else b vs ws j l r e hb c ej hl hr h =
     branch b vs ws j l e hb c ej hl h _ (λ us done eu ry. sound-U us eu (kept done hr) ry)
@@ -609,7 +581,7 @@ choiceBody a b m l r e =
 
 sound-choice :
     (a b : Query) (vs ws : List ℕ) (m l r : ℕ) (e : Tables) → Keeps a → Keeps b → Closed a vs → Closed b vs →
-    m ≡ length ws → Wide ws l 1 → Wide ws r 3 → Env ws e vs → Sound ws (choiceBody a b m l r e)
+    m ≡ length ws → TableWide ws l 1 → TableWide ws r 3 → Env ws e vs → WellMade ws (choiceBody a b m l r e)
 unfolding next headI
 sound-choice a b vs ws m l r e ha hb ca cb em hl hr h =
     let head = ends-I ws em hl hr in
@@ -641,7 +613,7 @@ keeps-QR at k vs ws n l e c en hl h = sound-R ws en k hl
 -- after tables of widths ws, under a loop table of width 1 and variables of width 3, each rule is sound
 pub tr-sound :
     (q : Query) (vs ws : List ℕ) (n l : ℕ) (e : Tables) →
-    Closed q vs → n ≡ length ws → Wide ws l 1 → Env ws e vs → Sound ws (tr q n l e)
+    Closed q vs → n ≡ length ws → TableWide ws l 1 → Env ws e vs → WellMade ws (tr q n l e)
 tr-sound q =
     elim q as (λ q. Keeps q) [
       | QL at z ↦ keeps-QL at z
@@ -671,7 +643,7 @@ no-variables ws e = record { at = λ v b. absurd (false≢true b) }
 pub plan-widths : (q : Query) → Closed q [] → (ws : List ℕ) × (widths [] (plan q) ≡ gives (ws ++ (3 ∷ [])))
 unfolding plan next
 plan-widths q c =
-    let loop : Wide (1 ∷ []) 0 1 = record { there = lit< tt; is = refl } in
+    let loop : TableWide (1 ∷ []) 0 1 = record { there = lit< tt; is = refl } in
     let x = tr-sound q [] (1 ∷ []) 1 0 (λ v. 0) c refl loop (no-variables (1 ∷ []) (λ v. 0)) in
     let last = ends-last (x .after) (count (x .ends) refl) (x .result) in
     let all = ends-then first-loop (ends-then (x .ends) last) in

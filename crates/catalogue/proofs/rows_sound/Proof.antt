@@ -1,4 +1,5 @@
--- `rows_sound` meets its contract. The invariant of its loop: the rows before r passed, so that the checks from r on, of
+-- `rows_sound` meets its contract. The invariant of its loop: the rows before r passed, so that the checks from r on,
+-- of
 -- as many rows as may still be there, give what the whole gives. The measure is how many rows may still be there.
 use Prim.Native.Nat.{ℕ, _≤_, _+_, _*_, _-_}
 use native.Mathlib.Omega.{arith}
@@ -6,11 +7,12 @@ use mathlib.Core.Bool.{true}
 use mathlib.Core.List.{List}
 use mathlib.Core.Path.{_≡_, refl, sym, ap, _∙_}
 use lib.ListN.{length}
-use borrow.Author.Tests.{not-true, not-false}
-use Rattle.meaning.specs.Catalogue.{rowSound, rowsSound}
+use borrow.Author.Needs.{needs}
+use Rattle.meaning.specs.Catalogue.{catalogueOf, rowSound, rowsSound}
+use Rattle.catalogue.specs.Fields.{levelAt}
 use Rattle.catalogue.specs.Answers.{counted}
 use Rattle.catalogue.proofs.Rows.{row}
-use Rattle.catalogue.proofs.Turns.{turn-end, turn-over, turn-bad, turn-on}
+use Rattle.catalogue.proofs.Turns.{row-read, row-unread, turn-end, turn-over, turn-bad, turn-on}
 use Rattle.catalogue.proofs.rows_sound.Statement.{statement}
 use Rattle.catalogue.proofs.rows_sound.Tie as tie
 
@@ -30,16 +32,25 @@ rank c = c .loop .r
 abbrev most : tie.At-loop Inv-loop μ-loop → ℕ
 most c = c .loop .most
 
--- past the second test the row is sound, and so it is all there
-passes : (c : tie.Else2 Inv-loop μ-loop) → let at = c .before .before .before .before in
-    rowSound (bytes at) (rank at) (most at) ≡ true
-passes c = sym (c .before .row-sound .ensures) ∙ not-false _ (c .if2 .left)
+-- a row that was read is sound, and so it is all there; its level is the one read
+passes : (c : tie.After-level Inv-loop μ-loop) → let at = c .before .before .before .before .before in
+    (rowSound (bytes at) (rank at) (most at) ≡ true) × (c .level .given .0 .0 ≡ levelAt (bytes at) (rank at))
+passes c =
+    let read = c .before .before in
+    row-read _ _ (read .read-row .result) (read .read-row .ensures) (c .level .given .1)
 
-room : (c : tie.Else2 Inv-loop μ-loop) → let at = c .before .before .before .before in
+room : (c : tie.After-level Inv-loop μ-loop) → let at = c .before .before .before .before .before in
     10 * rank at + 10 ≤ length (bytes at)
 room c =
-    let at = c .before .before .before .before in
-    row (bytes at) (rank at) (most at) 0 (passes c) .0
+    let at = c .before .before .before .before .before in
+    row (bytes at) (rank at) (most at) 0 (passes c .0) .0
+
+shallow : (c : tie.After-level Inv-loop μ-loop) → let at = c .before .before .before .before .before in
+    levelAt (bytes at) (rank at) ≤ 63
+unfolding levelAt catalogueOf
+shallow c =
+    let at = c .before .before .before .before .before in
+    row (bytes at) (rank at) (most at) 0 (passes c .0) .1 .shallow
 
 loop-holds : tie.Need-loop-holds Inv-loop μ-loop
 loop-holds c = (omega arith, omega arith, refl)
@@ -53,21 +64,27 @@ returns c =
     let at = c .before .before in
     turn-end (bytes at) (rank at) (most at) 2048 (c .if1 .taken) ∙ at .loop .inv .2
 
-row-sound-requires : tie.Need-row-sound-requires Inv-loop μ-loop
-row-sound-requires c κs = omega arith
+read-row-requires : tie.Need-read-row-requires Inv-loop μ-loop
+read-row-requires c κs = omega arith
+
+enum-known-level : tie.Need-enum-known-level Inv-loop μ-loop
+enum-known-level c = search needs
+
+enum-told : tie.Need-enum-told Inv-loop μ-loop
+enum-told c = search needs
 
 returns-2 : tie.Need-returns-2 Inv-loop μ-loop
 unfolding counted
 returns-2 c =
-    let at = c .before .before .before .before in
+    let read = c .before .before in
+    let at = read .before .before .before in
     turn-bad (bytes at) (rank at) (most at) 2048 (omega arith) (omega arith)
-    (sym (c .before .row-sound .ensures) ∙ not-true _ (c .if2 .taken)) ∙ at .loop .inv .2
-
-level-requires : tie.Need-level-requires Inv-loop μ-loop
-level-requires c κs = omega (arith, room c)
+    (row-unread _ _ (read .read-row .result) (read .read-row .ensures) (c .enum-told .given .1)) ∙ at .loop .inv .2
 
 add-most : tie.Need-add-most Inv-loop μ-loop
-add-most c = omega arith
+add-most c =
+    let p = c .before in
+    omega (arith, passes p .1, shallow p)
 
 add-r : tie.Need-add-r Inv-loop μ-loop
 add-r c = omega arith
@@ -77,11 +94,12 @@ loop-less c = omega arith
 
 loop-again : tie.Need-loop-again Inv-loop μ-loop
 loop-again c =
-    let at = c .before .before .before .before .before in
-    let on = turn-on (bytes at) (rank at) (most at) 2048 (omega arith) (omega arith) (passes (c .before)) in (
+    let p = c .before in
+    let at = p .before .before .before .before .before in
+    let on = turn-on (bytes at) (rank at) (most at) 2048 (omega arith) (omega arith) (passes p .0) in (
       omega arith,
-      omega (arith, room (c .before)),
-      ap (λ (l : ℕ). rowsSound (2048 - (rank at + 1)) (bytes at) (rank at + 1) (l + 1)) (c .level .ensures .0)
+      omega (arith, room p),
+      ap (λ (l : ℕ). rowsSound (2048 - (rank at + 1)) (bytes at) (rank at + 1) (l + 1)) (passes p .1)
           ∙ on ∙ at .loop .inv .2,
     )
 
@@ -92,7 +110,7 @@ returns-3 : tie.Need-returns-3 Inv-loop μ-loop
 unfolding counted
 returns-3 c =
     let at = c .before .before in
-    turn-end (bytes at) (rank at) (most at) 2048 (c .if3 .taken) ∙ at .loop .inv .2
+    turn-end (bytes at) (rank at) (most at) 2048 (c .if2 .taken) ∙ at .loop .inv .2
 
 returns-4 : tie.Need-returns-4 Inv-loop μ-loop
 unfolding counted
@@ -109,9 +127,10 @@ rows-sound-spec =
     loop-holds
     mul-at
     returns
-    row-sound-requires
+    read-row-requires
+    enum-known-level
+    enum-told
     returns-2
-    level-requires
     add-most
     add-r
     loop-less

@@ -16,7 +16,8 @@ back : (c : tie.Start) → toZ w64 (ofZ w64 (c .args .cell)) ≡ c .args .cell
 back c = toZ-ofZ (c .fits .cell)
 
 abbrev below : (c : tie.Then1) →
-    (n : ℕ) × (negsuc 0 -ℤ c .before .args .cell ≡ pos n) × (n < 2 ^ 63) × (0xffff_ffff_ffff_ffff - n ≡ bits8 (c .before .args .cell))
+    (n : ℕ) × (negsuc 0 -ℤ c .before .args .cell ≡ pos n) × (n < 2 ^ 63)
+    × (0xffff_ffff_ffff_ffff - n ≡ bits8 (c .before .args .cell))
 below c = bits-below _ (rw (back (c .before)) at (c .if1 .taken)) (c .before .fits .cell .sfits)
 
 abbrev from : (c : tie.Else1) →

@@ -15,7 +15,8 @@ use Rattle.items.proofs.arith.Tie as tie
 first-is : (c : tie.After-integer-of) → number (c .integer-of .result) ≡ integerOf (c .before .args .a)
 first-is c = c .integer-of .ensures ∙ ap integerOf (toZ-ofZ (c .before .fits .a))
 
-second-is : (c : tie.After-integer-of2) → number (c .integer-of2 .result) ≡ integerOf (c .before .before .before .before .before .args .b)
+second-is : (c : tie.After-integer-of2)
+    → number (c .integer-of2 .result) ≡ integerOf (c .before .before .before .before .before .args .b)
 second-is c = c .integer-of2 .ensures ∙ ap integerOf (toZ-ofZ (c .before .before .before .before .before .fits .b))
 
 -- both are integers of 32 bits
@@ -49,7 +50,11 @@ enum-told-2 c = search needs
 
 returns-2 : tie.Need-returns-2
 unfolding number tried
-returns-2 c = arith-second _ _ _ _ (sym (ap number (c .before .before .before .before .first .given .1)) ∙ first-is (c .before .before .before .before .before .before)) (sym (ap number (c .enum-told2 .given .1)) ∙ second-is (c .before .before))
+returns-2 c =
+    arith-second _ _ _ _
+    (sym (ap number (c .before .before .before .before .first .given .1))
+    ∙ first-is (c .before .before .before .before .before .before))
+    (sym (ap number (c .enum-told2 .given .1)) ∙ second-is (c .before .before))
 
 function-requires : tie.Need-function-requires
 function-requires c κs = search needs
@@ -60,7 +65,8 @@ returns-3 c =
     let one = c .before .before .before .before .before .before in
     let two = c .before .before in
     c .function .ensures
-    ∙ ap₂ (World.function _) (toZ-ofZ (narrow (c .before .before .before .before .before))) (toZ-ofZ (narrow2 (c .before)))
+    ∙ ap₂ (World.function _) (toZ-ofZ (narrow (c .before .before .before .before .before)))
+    (toZ-ofZ (narrow2 (c .before)))
     ∙ arith-both _ _ _ _ _ (sym (ap number (one .first .given .1)) ∙ first-is (one .before .before))
     (sym (ap number (two .second .given .1)) ∙ second-is (two .before .before))
 

@@ -81,7 +81,8 @@ returns c =
     c .given .ensures
     ∙ ap number (c .before .sum .ensures)
     ∙ number-ranged _
-    ∙ function-is _ Add _ _ _ _ (c .before .before .enum-told .given .1) (x-is (c .before .before .before .before)) (y-is (c .before .before .before .before))
+    ∙ function-is _ Add _ _ _ _ (c .before .before .enum-told .given .1) (x-is (c .before .before .before .before))
+    (y-is (c .before .before .before .before))
 
 returns-2 : tie.Need-returns-2
 unfolding World.function
@@ -89,7 +90,8 @@ returns-2 c =
     c .given2 .ensures
     ∙ ap number (c .before .difference .ensures)
     ∙ number-ranged _
-    ∙ function-is _ Subtract _ _ _ _ (c .before .before .enum-told2 .given .1) (x-is (c .before .before .before .before)) (y-is (c .before .before .before .before))
+    ∙ function-is _ Subtract _ _ _ _ (c .before .before .enum-told2 .given .1)
+    (x-is (c .before .before .before .before)) (y-is (c .before .before .before .before))
 
 returns-3 : tie.Need-returns-3
 unfolding World.function
@@ -97,7 +99,8 @@ returns-3 c =
     c .given3 .ensures
     ∙ ap number (c .before .product .ensures)
     ∙ number-ranged _
-    ∙ function-is _ Multiply _ _ _ _ (c .before .before .enum-told3 .given .1) (x-is (c .before .before .before .before)) (y-is (c .before .before .before .before))
+    ∙ function-is _ Multiply _ _ _ _ (c .before .before .enum-told3 .given .1)
+    (x-is (c .before .before .before .before)) (y-is (c .before .before .before .before))
 
 returns-4 : tie.Need-returns-4
 unfolding World.function
@@ -105,19 +108,22 @@ returns-4 c =
     c .given4 .ensures
     ∙ ap number (c .before .quotient .ensures)
     ∙ number-quotient _ _
-    ∙ function-is _ Divide _ _ _ _ (c .before .before .enum-told4 .given .1) (x-is (c .before .before .before .before)) (y-is (c .before .before .before .before))
+    ∙ function-is _ Divide _ _ _ _ (c .before .before .enum-told4 .given .1) (x-is (c .before .before .before .before))
+    (y-is (c .before .before .before .before))
 
 returns-5 : tie.Need-returns-5
 unfolding tried World.function
 returns-5 c =
     ap gives (read-back w64 (c .truth-cell .ok) ∙ c .truth-cell .ensures ∙ ap truthCell (c .before .equal .ensures))
-    ∙ function-is _ Equal _ _ _ _ (c .before .before .enum-told5 .given .1) (x-is (c .before .before .before .before)) (y-is (c .before .before .before .before))
+    ∙ function-is _ Equal _ _ _ _ (c .before .before .enum-told5 .given .1) (x-is (c .before .before .before .before))
+    (y-is (c .before .before .before .before))
 
 returns-6 : tie.Need-returns-6
 unfolding tried World.function
 returns-6 c =
     ap gives (read-back w64 (c .truth-cell2 .ok) ∙ c .truth-cell2 .ensures ∙ ap truthCell (c .before .less .ensures))
-    ∙ function-is _ Less _ _ _ _ (c .before .before .enum-told6 .given .1) (x-is (c .before .before .before .before)) (y-is (c .before .before .before .before))
+    ∙ function-is _ Less _ _ _ _ (c .before .before .enum-told6 .given .1) (x-is (c .before .before .before .before))
+    (y-is (c .before .before .before .before))
 
 pub function-spec : {M : Type 1} → statement M
 function-spec =

@@ -30,7 +30,9 @@ integer-in-requires c κs = search needs
 
 returns-2 : tie.Need-returns-2
 unfolding integerOf
-returns-2 c = c .integer-in .ensures ∙ sym (ap integerIn (sym (holds (c .before .before .before .before)) ∙ c .before .before .held .given .1))
+returns-2 c =
+    c .integer-in .ensures
+    ∙ sym (ap integerIn (sym (holds (c .before .before .before .before)) ∙ c .before .before .held .given .1))
 
 pub integer-of-spec : {M : Type 1} → statement M
 integer-of-spec =

@@ -26,16 +26,22 @@ returns : tie.Need-returns
 unfolding tried found
 returns c = root-none _ _ (sym (ap found (c .enum-told .given .1)) ∙ c .before .before .root .ensures)
 
-row : (c : tie.After-known-told) → c .before .found .given .0 .0 .0 < c .before .before .before .before .before .args .rows
+row : (c : tie.After-known-told)
+    → c .before .found .given .0 .0 .0 < c .before .before .before .before .before .args .rows
 unfolding found catalogueOf
-row c = root-row (catalogueOf _ _) _ _ (sym (ap found (c .before .found .given .1)) ∙ c .before .before .before .root .ensures)
+row c =
+    root-row (catalogueOf _ _) _ _
+    (sym (ap found (c .before .found .given .1)) ∙ c .before .before .before .root .ensures)
 
 node-cell-requires : tie.Need-node-cell-requires
 node-cell-requires c κs = omega (arith, row c)
 
 returns-2 : tie.Need-returns-2
 unfolding tried found
-returns-2 c = ap gives (read-back w64 (c .node-cell .ok) ∙ c .node-cell .ensures) ∙ root-is _ _ _ (sym (ap found (c .before .before .found .given .1)) ∙ c .before .before .before .before .root .ensures)
+returns-2 c =
+    ap gives (read-back w64 (c .node-cell .ok) ∙ c .node-cell .ensures)
+    ∙ root-is _ _ _
+    (sym (ap found (c .before .before .found .given .1)) ∙ c .before .before .before .before .root .ensures)
 
 pub root-spec : {M : Type 1} → statement M
 root-spec =

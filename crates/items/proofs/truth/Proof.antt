@@ -19,7 +19,8 @@ shared-slice-copy-out-item-of : tie.Need-shared-slice-copy-out-item-of
 shared-slice-copy-out-item-of c = search needs
 
 -- what the first cell, read back from its bits, holds
-holds : (c : tie.After-item-of) → c .item-of .result ≡ held (getD (c .before .before .before .args .items .now) 0 (pos 0))
+holds : (c : tie.After-item-of)
+    → c .item-of .result ≡ held (getD (c .before .before .before .args .items .now) 0 (pos 0))
 holds c = c .item-of .ensures ∙ ap held (toZ-ofZ (record { sfits = c .before .item-of-arg .given }))
 
 item-of-requires : tie.Need-item-of-requires

@@ -31,7 +31,9 @@ value-in-requires c κs = search needs
 
 returns-2 : tie.Need-returns-2
 unfolding World.value
-returns-2 c = c .value-in .ensures ∙ sym (ap (valueIn _) (sym (holds (c .before .before .before .before)) ∙ c .before .before .held .given .1))
+returns-2 c =
+    c .value-in .ensures
+    ∙ sym (ap (valueIn _) (sym (holds (c .before .before .before .before)) ∙ c .before .before .held .given .1))
 
 pub value-spec : {M : Type 1} → statement M
 value-spec =
