@@ -4,3 +4,5 @@ pub mod Holding
 pub mod Cells
 pub mod Bytes
 pub mod Arithmetic
+pub mod Numbers
+pub mod Cut

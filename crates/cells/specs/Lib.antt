@@ -2,3 +2,4 @@ pub mod Cell
 pub mod Bytes
 pub mod Small
 pub mod Arithmetic
+pub mod Codes

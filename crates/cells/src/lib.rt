@@ -1,6 +1,7 @@
 // The words of document 01 that code and definitions share, and the cells that hold items.
-
+pub mod codes;
 pub mod limits;
+pub mod marks;
 
 // The preorder rank of a node: the number of its row.
 pub struct Rank(pub usize);

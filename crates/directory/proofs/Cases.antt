@@ -15,13 +15,13 @@ use Rattle.meaning.specs.Plan.{Placed}
 use Rattle.meaning.specs.World.{World}
 use Rattle.tables.specs.declared.Laid.{Laid}
 use Rattle.tables.specs.Layout.{Owes}
-use Rattle.plans.specs.declared.Decoded.{Decoded}
-use Rattle.plans.specs.declared.Operator.{Operator}
+use Rattle.plan_records.specs.declared.Decoded.{Decoded}
+use Rattle.plan_records.specs.declared.Operator.{Operator}
 use Rattle.plans.specs.declared.widths.Operands.{Operands}
 use Rattle.plans.specs.declared.widths.Operands.the-variants.{None, Of}
 use Rattle.plans.specs.Accepted.{Turn}
-use Rattle.plans.specs.Decoded.{operatorOf}
-use Rattle.plans.specs.Walk.{widthsOf}
+use Rattle.plan_records.specs.Decoded.{operatorOf}
+use Rattle.theorems.specs.PlanRead.{widthsOf}
 use Rattle.plans.specs.Widths as Widths
 use Rattle.plans.specs.Widths.{tablesOf}
 use Rattle.plans.proofs.Callers.{no-table, turn-fitting}

@@ -8,7 +8,7 @@ use Prim.Native.Nat.{ℕ, _+_, _*_, _≤_, _<_}
 use mathlib.Core.List.{List}
 use lib.ListN.{length}
 use Rattle.tables.specs.Layout.{Inside}
-use Rattle.plans.specs.declared.Operator.{Operator}
+use Rattle.plan_records.specs.declared.Operator.{Operator}
 use Rattle.plans.specs.declared.widths.Operands.{Operands}
 use Rattle.plans.specs.declared.widths.Operands.the-variants.{None, Of}
 use Rattle.plans.specs.Accepted.{Suited}

@@ -4,7 +4,7 @@ ghost use Prim.Native.Nat.{_+_, _*_, _≤_};
 ghost use lib.ListN.{length};
 ghost use Rattle.directory.specs.Directory.{standAt, entered};
 ghost use Rattle.directory.specs.Sound.{madeWidth, Served};
-use plans::Operator;
+use plan_records::Operator;
 use plans::widths::Operands;
 use tables::Stand;
 

@@ -23,10 +23,10 @@ use Rattle.meaning.specs.Calls.{gives, refused, Outcome, refusal, room, queryCa
 use Rattle.meaning.specs.Calls.{evaluateOutcome, evaluateCall}
 use Rattle.queries.specs.declared.Checked.{Checked}
 use Rattle.queries.specs.declared.Checked.the-variants as Checked
-use Rattle.queries.specs.Decoded as Decoded
-use Rattle.queries.specs.Parse.{parse}
+use Rattle.queries.specs.Answers as Decoded
+use Rattle.query_walks.specs.Parse.{parse}
 use Rattle.queries.proofs.Callers.{check-reads, check-refuses}
-use Rattle.queries.proofs.Accepting.{query-accepted}
+use Rattle.query_walks.proofs.Accepting.{query-accepted}
 use Rattle.queries.proofs.Checked.{the-type as query-type}
 use Rattle.catalogue.specs.declared.Checked.{Checked as Catalogued}
 use Rattle.catalogue.specs.declared.Checked.the-variants as Catalogued

@@ -6,6 +6,7 @@ use mathlib.Core.Path.{_≡_, refl}
 use mathlib.Core.List.{List, [], _∷_}
 use Prim.Native.Nat.{ℕ}
 use lib.IntN.{pos, negsuc}
+use Rattle.cells.specs.Codes as Codes
 use Rattle.laws.specs.Lists as Lists
 use Rattle.laws.specs.Rows as Rows
 use Rattle.laws.specs.Rows as Rows
@@ -62,7 +63,7 @@ unfolding Text.digits Text.decimal Text.signed Text.integerLine Text.truthLine T
     World.integerOf World.ranged World.quotient World.function World.arith World.valueIn World.value World.truthFrom
     World.truth World.fragment World.isDescendant World.isChild World.axisHolds World.onAxis World.passes World.rankIn
     World.rankOf World.ranksOf World.reached World.step World.roots World.member World.rootOf World.worldOf
-    Query.functionOf Query.axisOf Query.testOf Query.variableOf Query.fragmentOf Query.booleanOf Query.sized
+    Codes.functionOf Codes.axisOf Codes.testOf Query.variableOf Query.fragmentOf Query.booleanOf Query.sized
     Query.recordOf Query.recordAt Query.bound Query.leaf Query.one Query.two Query.three Query.operands Query.read
     Query.queryRead Query.free Meaning.bind Meaning.apply Meaning.values Meaning.eval Counted.stand Counted.adding
     Counted.loop Counted.evaluate Plan.plainIn Plan.columnsAt Plan.sized Plan.attachAt Plan.projectAt Plan.numberAt
@@ -74,8 +75,8 @@ unfolding Text.digits Text.decimal Text.signed Text.integerLine Text.truthLine T
     Run.cells Run.running Translation.next Translation.hold Translation.freeIn Translation.othersIn Translation.lifts
     Translation.lifted Translation.ruleL Translation.ruleR Translation.ruleE Translation.tailS Translation.headF
     Translation.tailF Translation.headI Translation.tailO Translation.tailC Translation.tailD Translation.tailX
-    Translation.then Translation.tr Translation.tailLast Translation.plan Written.functionNumber Written.axisNumber
-    Written.testNumber Written.testName Written.operatorBytes Written.written Rows.padded Calls.refusal Calls.room
+    Translation.then Translation.tr Translation.tailLast Translation.plan Codes.functionNumber Codes.axisNumber
+    Codes.testNumber Codes.testName Written.operatorBytes Written.written Rows.padded Calls.refusal Calls.room
     Calls.catalogueAnswer Calls.catalogueCall Calls.queryAnswer Calls.queryCall Calls.planOf Calls.translateOutcome
     Calls.translateCall Calls.lastTable Rows.flat Calls.runOutcome Calls.runCall Calls.evaluateOutcome
     Calls.evaluateCall

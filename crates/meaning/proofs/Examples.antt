@@ -14,6 +14,7 @@ use mathlib.Core.Path.{_≡_, refl}
 use mathlib.Core.List.{List, [], _∷_, _++_, map}
 use lib.IntN.{ℤ, pos, negsuc}
 use lib.ListN.{take, drop, getD}
+use Rattle.cells.specs.Codes as Codes
 use Rattle.laws.specs.Lists as Lists
 use Rattle.laws.specs.Rows as Rows
 use Rattle.laws.specs.Sorting as Sorting
@@ -140,7 +141,7 @@ unfolding evaluated ran answered planBytes itemColumn integer boolean empty root
     Catalogue.sizesExact Catalogue.catalogueRead World.integerIn World.integerOf World.ranged World.quotient
     World.function World.arith World.valueIn World.value World.truthFrom World.truth World.fragment World.isDescendant
     World.isChild World.axisHolds World.onAxis World.passes World.rankIn World.rankOf World.ranksOf World.reached
-    World.step World.roots World.member World.rootOf World.worldOf Query.functionOf Query.axisOf Query.testOf
+    World.step World.roots World.member World.rootOf World.worldOf Codes.functionOf Codes.axisOf Codes.testOf
     Query.variableOf Query.fragmentOf Query.booleanOf Query.sized Query.recordOf Query.recordAt Query.bound Query.leaf
     Query.one Query.two Query.three Query.operands Query.read Query.queryRead Query.free Meaning.bind Meaning.apply
     Meaning.values Meaning.eval Counted.stand Counted.adding Counted.loop Counted.evaluate Plan.plainIn Plan.columnsAt
@@ -153,7 +154,7 @@ unfolding evaluated ran answered planBytes itemColumn integer boolean empty root
     Translation.freeIn Translation.othersIn Translation.lifts Translation.lifted Translation.ruleL Translation.ruleR
     Translation.ruleE Translation.tailS Translation.headF Translation.tailF Translation.headI Translation.tailO
     Translation.tailC Translation.tailD Translation.tailX Translation.then Translation.tr Translation.tailLast
-    Translation.plan Written.functionNumber Written.axisNumber Written.testNumber Written.testName Written.operatorBytes
+    Translation.plan Codes.functionNumber Codes.axisNumber Codes.testNumber Codes.testName Written.operatorBytes
     Written.written Rows.padded Calls.refusal Calls.room Calls.catalogueAnswer Calls.catalogueCall Calls.queryAnswer
     Calls.queryCall Calls.planOf Calls.translateOutcome Calls.translateCall Calls.lastTable Rows.flat Calls.runOutcome
     Calls.runCall Calls.evaluateOutcome Calls.evaluateCall

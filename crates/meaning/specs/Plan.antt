@@ -23,7 +23,8 @@ use Rattle.laws.specs.Attempt.{unless}
 use Rattle.cells.specs.declared.Function.{Function}
 use Rattle.cells.specs.declared.Axis.{Axis}
 use Rattle.cells.specs.declared.Test.{Test}
-use Rattle.meaning.specs.Query.{functionOf, axisOf, testOf, fragmentOf}
+use Rattle.meaning.specs.Query.{fragmentOf}
+use Rattle.cells.specs.Codes.{functionOf, axisOf, testOf}
 
 pub data Op : Type 0 where
   RT : Op  -- one row, one cell, 1

@@ -14,14 +14,11 @@ use lib.Dec.{ltb, leb, eqb}
 use lib.IntN.{ℤ, pos}
 use lib.ListN.{length}
 use Rattle.cells.specs.declared.Function.{Function}
-use Rattle.cells.specs.declared.Function.the-variants.{Add, Subtract, Multiply, Divide, Equal, Less}
 use Rattle.cells.specs.declared.Axis.{Axis}
-use Rattle.cells.specs.declared.Axis.the-variants.{Child, Descendant, DescendantOrSelf, Itself, Parent, Ancestor}
-use Rattle.cells.specs.declared.Axis.the-variants.{Following, Preceding}
 use Rattle.cells.specs.declared.Test.{Test}
-use Rattle.cells.specs.declared.Test.the-variants.{AnyNode, Element, Text, Named}
 use Rattle.cells.specs.Bytes.{byteAt, word, int4, fits}
 use Rattle.cells.specs.Cell.{falseCell, trueCell}
+use Rattle.cells.specs.Codes.{functionOf, axisOf, testOf}
 use Rattle.laws.specs.Lists.{any}
 use Rattle.laws.specs.Attempt.{Attempt, fails, gives, attempt, provided, Reading, refuses, reads, reading, refusing}
 use Rattle.laws.specs.Attempt.{unless}
@@ -94,37 +91,6 @@ markQD = 0x5144
 
 abbrev pub markQX : ℕ
 markQX = 0x5158
-
--- 1 add, 2 subtract, 3 multiply, 4 idiv, 5 eq, 6 lt
-unfoldable pub functionOf : ℕ → Attempt Function
-functionOf n =
-    cond (eqb n 1) (gives Add)
-    (cond (eqb n 2) (gives Subtract)
-    (cond (eqb n 3) (gives Multiply)
-    (cond (eqb n 4) (gives Divide)
-    (cond (eqb n 5) (gives Equal)
-    (cond (eqb n 6) (gives Less) fails)))))
-
--- 1 child, 2 descendant, 3 descendant-or-self, 4 self, 5 parent, 6 ancestor, 7 following, 8 preceding
-unfoldable pub axisOf : ℕ → Attempt Axis
-axisOf n =
-    cond (eqb n 1) (gives Child)
-    (cond (eqb n 2) (gives Descendant)
-    (cond (eqb n 3) (gives DescendantOrSelf)
-    (cond (eqb n 4) (gives Itself)
-    (cond (eqb n 5) (gives Parent)
-    (cond (eqb n 6) (gives Ancestor)
-    (cond (eqb n 7) (gives Following)
-    (cond (eqb n 8) (gives Preceding) fails)))))))
-
--- 0 any node, 1 element, 2 text, 3 element of that name; name is 0 for tests 0 to 2
-unfoldable pub testOf : ℕ → ℕ → Attempt Test
-testOf n name =
-    cond (eqb n 3) (gives (Named name))
-    (provided (eqb name 0)
-    (cond (eqb n 0) (gives AnyNode)
-    (cond (eqb n 1) (gives Element)
-    (cond (eqb n 2) (gives Text) fails))))
 
 -- a variable is 0 to 7
 unfoldable pub variableOf : ℕ → Attempt ℕ

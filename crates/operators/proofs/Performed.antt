@@ -21,9 +21,9 @@ use Rattle.rowwise.specs.Tasks.{made, wider}
 use Rattle.tables.proofs.Promise.{owes-is}
 use Rattle.rowwise.proofs.Operators.{makes-RA, makes-RP, makes-RD, makes-RS, makes-RF, makes-RV}
 use Rattle.whole.proofs.Makes.{makes-RT, makes-RU, makes-RK, makes-RO}
-use Rattle.plans.specs.declared.Operator.{Operator}
-use Rattle.plans.specs.declared.Operator.the-variants as Operator
-use Rattle.plans.specs.Decoded.{operatorOf}
+use Rattle.plan_records.specs.declared.Operator.{Operator}
+use Rattle.plan_records.specs.declared.Operator.the-variants as Operator
+use Rattle.plan_records.specs.Decoded.{operatorOf}
 use Rattle.plans.specs.Widths as Widths
 use Rattle.directory.specs.Directory.{standAt, tablesIn}
 use Rattle.directory.proofs.Entries.{table-of}

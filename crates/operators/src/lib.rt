@@ -6,13 +6,13 @@ ghost use Rattle.meaning.specs.Operators.{make};
 ghost use Rattle.meaning.specs.World.{worldOf};
 ghost use Rattle.tables.specs.Layout.{Owes};
 ghost use Rattle.axes.specs.Steps.{Ready};
-ghost use Rattle.plans.specs.Decoded.{operatorOf};
+ghost use Rattle.plan_records.specs.Decoded.{operatorOf};
 ghost use Rattle.directory.specs.Directory.{tablesIn, Listed};
 ghost use Rattle.directory.specs.Sound.{madeWidth, Sound};
 
 mod arms;
 
-use plans::Operator;
+use plan_records::Operator;
 use rowwise::Task;
 use tables::Laid;
 

@@ -10,40 +10,41 @@
 --     keys-one, keys-two             RN's keys as they stand in the bytes
 use Prim.Native.Nat.{ℕ, zero, suc, _+_, _-_, _≤_, _<_}
 use mathlib.Core.Path.{_≡_, refl, sym, _∙_, ap, subst}
-use mathlib.Core.Bool.{Bool, true, false, _&&_, _||_}
+use mathlib.Core.Bool.{Bool, true, false}
 use mathlib.Core.List.{List, [], _∷_, _++_, append-nil, append-assoc, append-cancel-left}
 use native.Mathlib.Omega.{arith}
 use native.Mathlib.Numerals.{add-one}
 use borrow.Author.Tests.{ltb-true, leb-true, leb-false, eqb-true}
 use lib.Dec.{eqb, ltb, leb}
-use lib.ListN.{length, getD, take, drop, length-append}
+use lib.ListN.{length, getD}
 use lib.Seq.{drop-cons}
 use Rattle.cells.specs.Bytes.{byteAt, Bytes}
-use Rattle.laws.specs.Attempt.{Attempt, fails, gives, attempt, provided, Reading, refuses, reads, reading, refusing}
+use Rattle.laws.specs.Attempt.{Attempt, fails, gives, Reading, refuses, reads, reading, refusing}
 use Rattle.laws.specs.Attempt.{unless}
-use Rattle.meaning.specs.Plan.{Op, Placed, columnsAt, columns, tableWidth, widthOf, operatorAt, placedAt, lastOf, ended}
+use Rattle.meaning.specs.Plan.{Placed, columnsAt, tableWidth, widthOf, operatorAt, placedAt, lastOf, ended}
 use Rattle.meaning.specs.Plan.{planFrom, planRead}
 use Rattle.laws.proofs.Outcomes.{reads-same, refuses-reads, gives-same}
 use Rattle.theorems.specs.PlanFields.{Own, Width}
 use Rattle.theorems.specs.PlanWidths.{Every}
 use Rattle.theorems.proofs.PlanWidths.{attempt-gives, provided-gives}
 use Rattle.laws.proofs.Booleans.{both-true}
-use Rattle.plans.specs.declared.Operator.{Operator}
-use Rattle.plans.specs.declared.Operator.the-variants as Operator
-use Rattle.plans.specs.declared.Decoded.{Decoded}
-use Rattle.plans.specs.declared.Reading.{Reading as Read}
-use Rattle.plans.specs.declared.Reading.the-variants as Read
+use Rattle.plan_records.specs.declared.Operator.{Operator}
+use Rattle.plan_records.specs.declared.Operator.the-variants as Operator
+use Rattle.plan_records.specs.declared.Decoded.{Decoded}
+use Rattle.plan_records.specs.declared.Reading.{Reading as Read}
+use Rattle.plan_records.specs.declared.Reading.the-variants as Read
 use Rattle.plans.specs.declared.Checked.{Checked}
 use Rattle.plans.specs.declared.Checked.the-variants.{Operators, Unsound}
 use Rattle.plans.specs.declared.widths.Operands.the-variants.{None, Of}
-use Rattle.plans.specs.Decoded.{operatorOf, Stands, Means}
+use Rattle.plan_records.specs.Decoded.{operatorOf, Stands, Means}
 use Rattle.plans.specs.Widths.{tablesOf, suitable, madeWidth}
-use Rattle.plans.specs.Walk.{checked, planCount, widthsOf, Walk}
+use Rattle.plans.specs.Walk.{checked, planCount}
+use Rattle.theorems.specs.PlanRead.{widthsOf}
 use Rattle.plans.specs.Accepted.{Suited, Fitting, Ahead, Turn, placed}
-use Rattle.plans.proofs.Columns.{columns-length}
-use Rattle.plans.proofs.Fields.{operator-ends}
+use Rattle.plan_records.proofs.Columns.{columns-length}
+use Rattle.plan_records.proofs.Fields.{operator-ends}
 use Rattle.plans.proofs.Ordered.{widthBy, width-by}
-use Rattle.plans.proofs.Walking.{from-one, walk-start, walk-end, walk-excess, walk-bad, walk-on, unplaced, misplaced}
+use Rattle.plans.proofs.Walking.{walk-start, walk-end, walk-excess, walk-bad, walk-on, unplaced, misplaced}
 use Rattle.plans.proofs.Walking.{widths-more, widths-length}
 use Rattle.plans.proofs.Ending.{unread, found, found-stands, last-each}
 
@@ -123,7 +124,8 @@ from-whole (suc left) bs done at ps e =
     on :
         ((done : List Placed) (at : ℕ) (ps : List Placed) → planFrom left bs done at ≡ reads ps → Whole done left ps) →
         (a : Attempt (Placed × ℕ)) →
-        reading (refusing 5 at a) (λ o. planFrom left bs (done ++ (o .0 ∷ [])) (o .1)) ≡ reads ps → Whole done (suc left) ps
+        reading (refusing 5 at a) (λ o. planFrom left bs (done ++ (o .0 ∷ [])) (o .1)) ≡ reads ps →
+        Whole done (suc left) ps
     on ih fails e = absurd (refuses-reads 5 at ps e)
     on ih (gives (p, next)) e = whole-on done p left ps (ih (done ++ (p ∷ [])) next ps e)
 
@@ -255,8 +257,8 @@ unfolding widthBy
 no-table bs ws o x s e q = sym (gives-same (sym (ap (widthBy bs ws o) q) ∙ sym (width-by bs ws o s) ∙ e))
 
 suited-all :
-    (bs : List ℕ) (o : Operator) (w v : ℕ) → Stands bs o → Own (operatorOf bs o) → suitable (operatorOf bs o) w v ≡ true →
-    Suited bs o w v
+    (bs : List ℕ) (o : Operator) (w v : ℕ) → Stands bs o → Own (operatorOf bs o) →
+    suitable (operatorOf bs o) w v ≡ true → Suited bs o w v
 unfolding Suited suitable operatorOf Own Stands
 suited-all bs Operator.One w v s k e = tt
 suited-all bs (Operator.Attach t z) w v s k e = (leb-true (w + 1) 6 e, k)
@@ -289,8 +291,8 @@ suited-all bs (Operator.Step t x y) w v s k e = (eqb-true w 2 e, k)
 suited-all bs (Operator.Root t i) w v s k e = (leb-true (w + 1) 6 e, k .0, k .1)
 
 pub fitting :
-    (bs ws : List ℕ) (o : Operator) (x : ℕ) → Stands bs o → Own (operatorOf bs o) → widthOf ws (operatorOf bs o) ≡ gives x →
-    (t u : ℕ) → tablesOf o ≡ Of t u → Fitting bs ws o t u x
+    (bs ws : List ℕ) (o : Operator) (x : ℕ) → Stands bs o → Own (operatorOf bs o) →
+    widthOf ws (operatorOf bs o) ≡ gives x → (t u : ℕ) → tablesOf o ≡ Of t u → Fitting bs ws o t u x
 unfolding widthBy
 fitting bs ws o x s k e t u q =
     let g : widthBy bs ws o (Of t u) ≡ gives x = sym (ap (widthBy bs ws o) q) ∙ sym (width-by bs ws o s) ∙ e in
@@ -307,7 +309,8 @@ fitting bs ws o x s k e t u q =
     }
 
 pub turn-fitting :
-    {bs : List ℕ} {done rest : List Placed} {at : ℕ} {f : Decoded} (k : Turn bs done rest at f) (t u : ℕ) → tablesOf (f .operator) ≡ Of t u → Fitting bs (widthsOf done) (f .operator) t u (k .width)
+    {bs : List ℕ} {done rest : List Placed} {at : ℕ} {f : Decoded} (k : Turn bs done rest at f) (t u : ℕ) →
+    tablesOf (f .operator) ≡ Of t u → Fitting bs (widthsOf done) (f .operator) t u (k .width)
 turn-fitting {bs} {done} {rest} {at} {f} k =
     fitting bs (widthsOf done) (f .operator) (k .width) (k .stands) (k .own) (k .fits)
 

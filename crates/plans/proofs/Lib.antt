@@ -1,9 +1,5 @@
-pub mod Sized
-pub mod Arms
-pub mod Columns
 pub mod Suiting
 pub mod Ordered
-pub mod Fields
 pub mod Walking
 pub mod Ending
 pub mod Callers

@@ -3,63 +3,21 @@
 --     walk-end                         at the end of the bytes
 --     walk-excess, walk-bad, walk-on   a 513th operator; an unsound one; a sound one
 --     last-width, last-at              the last operator of those done
-use Prim.Native.Nat.{ℕ, zero, suc, _+_, _-_, _≤_, _<_}
+use Prim.Native.Nat.{ℕ, suc, _+_, _-_, _≤_, _<_}
 use mathlib.Core.Path.{_≡_, refl, sym, _∙_, ap, subst}
-use mathlib.Core.List.{List, [], _∷_, _++_, map, append-assoc}
-use mathlib.Core.Bool.{Bool, true, false}
+use mathlib.Core.List.{List, [], _∷_, _++_}
 use native.Mathlib.Omega.{arith}
-use borrow.Author.Tests.{le-leb, lt-leb}
-use lib.Dec.{leb, eqb}
 use lib.ListN.{length, getD, length-append}
-use Rattle.laws.specs.Attempt.{Attempt, fails, gives, attempt, Reading, refuses, reads, reading, refusing, unless}
+use Rattle.laws.specs.Attempt.{fails, gives, attempt, refuses}
 use Rattle.meaning.specs.Plan.{Op, Placed, operatorAt, widthOf, placedAt, lastOf, ended, planFrom, planRead}
 use Rattle.theorems.specs.PlanFields.{Width}
-use Rattle.theorems.proofs.PlanFields.{widths-checked}
 use Rattle.theorems.specs.PlanWidths.{Every, widths}
-use Rattle.plans.specs.Walk.{widthsOf, lastAt, Walk}
+use Rattle.theorems.proofs.PlanFields.{widths-checked}
+use Rattle.theorems.proofs.PlanSteps.{from-end, from-none, from-bad, from-on, placed-is}
+use Rattle.plans.specs.Walk.{lastAt, Walk}
+use Rattle.theorems.specs.PlanRead.{widthsOf}
 use Rattle.cells.specs.Bytes.{Bytes}
-use Rattle.plans.proofs.Fields.{operator-ends}
-
--- At the end of the bytes, and before it
-
-abbrev turn : Reading (List Placed) → Reading (List Placed) → Bool → Reading (List Placed)
-turn a b t = elim t [ true ↦ a | false ↦ b ]
-
-module _ (bs : List ℕ) (done : List Placed) (at : ℕ) where
-  from-end : (left : ℕ) → length bs ≤ at → planFrom left bs done at ≡ ended done
-  unfolding planFrom
-  from-end zero h = ap (turn (ended done) (refuses 5 at)) (le-leb (length bs) at h)
-  from-end (suc left) h =
-      ap
-      (turn (ended done)
-      (reading (refusing 5 at (placedAt bs (widthsOf done) at)) (λ o. planFrom left bs (done ++ (o .0 ∷ [])) (o .1))))
-      (le-leb (length bs) at h)
-
-  module _ (h : at < length bs) where
-    from-none : planFrom zero bs done at ≡ refuses 5 at
-    unfolding planFrom
-    from-none = ap (turn (ended done) (refuses 5 at)) (lt-leb (length bs) at h)
-
-    pub from-one :
-        (left : ℕ) →
-        planFrom (suc left) bs done at ≡
-        reading (refusing 5 at (placedAt bs (widthsOf done) at)) (λ o. planFrom left bs (done ++ (o .0 ∷ [])) (o .1))
-    unfolding planFrom
-    from-one left =
-        ap
-        (turn (ended done)
-        (reading (refusing 5 at (placedAt bs (widthsOf done) at)) (λ o. planFrom left bs (done ++ (o .0 ∷ [])) (o .1))))
-        (lt-leb (length bs) at h)
-
-    from-bad : (left : ℕ) → placedAt bs (widthsOf done) at ≡ fails → planFrom (suc left) bs done at ≡ refuses 5 at
-    unfolding reading refusing
-    from-bad left e = from-one left ∙ rw e
-
-    from-on :
-        (left next : ℕ) (p : Placed) → placedAt bs (widthsOf done) at ≡ gives (p, next) →
-        planFrom (suc left) bs done at ≡ planFrom left bs (done ++ (p ∷ [])) next
-    unfolding reading refusing
-    from-on left next p e = from-one left ∙ rw e
+use Rattle.plan_records.proofs.Fields.{operator-ends}
 
 -- The last of those done
 
@@ -91,12 +49,6 @@ widths-length (x ∷ xs) = ap suc (widths-length xs)
 pub walk-start : (bs : List ℕ) → Walk bs [] 0
 unfolding planRead Every
 walk-start bs = record { few = omega arith; each = tt; rest = refl }
-
-pub placed-is :
-    (bs ws : List ℕ) (at next : ℕ) (o : Op) (w : ℕ) → operatorAt bs at ≡ gives (o, next) → widthOf ws o ≡ gives w →
-    placedAt bs ws at ≡ gives (record { at = at; op = o; width = w }, next)
-unfolding placedAt attempt
-placed-is bs ws at next o w p q = rw (p, q)
 
 pub unplaced : (bs ws : List ℕ) (at : ℕ) → operatorAt bs at ≡ fails → placedAt bs ws at ≡ fails
 unfolding placedAt attempt

@@ -1,7 +1,8 @@
 -- What an accepted plan gives to whoever walks over it again, operator by operator.
---     Suited bs o w v         an accepted operator o of tables of widths w and v: its fields and columns are in their ranges
+--     Suited bs o w v         an accepted operator o of tables of widths w and v: fields and columns in their ranges
 --     Fitting bs ws o t u x   o names tables t and u that are there, suits their widths, and makes a table of width x
 --     Ahead bs done rest at   the plan is the operators `done`, which end at `at`, and then `rest`
+--     placed bs at o w        an operator with its offset and its width
 --     Turn ..                 one more: what was read at `at` is the first of `rest`, and the walk goes on behind it
 use Prim.Native.Nat.{ℕ, _+_, _≤_, _<_}
 use mathlib.Core.Path.{_≡_}
@@ -11,15 +12,16 @@ use lib.Dec.{eqb, ltb}
 use lib.ListN.{length, getD}
 use Rattle.cells.specs.Cell.{held}
 use Rattle.laws.specs.Attempt.{gives, reads}
-use Rattle.meaning.specs.Written.{testName}
-use Rattle.meaning.specs.Plan.{Op, Placed, plainIn, columnsAt, columns, widthOf, operatorAt, planRead}
+use Rattle.cells.specs.Codes.{testName}
+use Rattle.meaning.specs.Plan.{Placed, plainIn, columnsAt, columns, widthOf, planRead}
 use Rattle.theorems.specs.PlanFields.{Own, Width}
-use Rattle.plans.specs.declared.Operator.{Operator}
-use Rattle.plans.specs.declared.Operator.the-variants as Operator
-use Rattle.plans.specs.declared.Decoded.{Decoded}
-use Rattle.plans.specs.Decoded.{operatorOf, Stands}
+use Rattle.plan_records.specs.declared.Operator.{Operator}
+use Rattle.plan_records.specs.declared.Operator.the-variants as Operator
+use Rattle.plan_records.specs.declared.Decoded.{Decoded}
+use Rattle.plan_records.specs.Decoded.{operatorOf, Stands}
 use Rattle.plans.specs.Widths.{madeWidth}
-use Rattle.plans.specs.Walk.{widthsOf, Walk}
+use Rattle.plans.specs.Walk.{Walk}
+use Rattle.theorems.specs.PlanRead.{widthsOf}
 
 unfoldable pub Suited : List ℕ → Operator → ℕ → ℕ → Type 0
 Suited bs Operator.One w v = Unit {0}

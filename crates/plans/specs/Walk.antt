@@ -1,18 +1,17 @@
 -- The plan check, and how far a walk over a plan came (document 01, 'Plan operators', 'The eight refusals').
 --     checked c          the answer of the plan check: the number of operators, or refusal 5 and its place
 --     planCount bs       what the definitions answer: how many operators the plan has, or the refusal
---     Ends bs at x       the operator x .0 stands from at to x .1, within the bytes, and its own fields are in their ranges
---     widthsOf ps        the widths of the tables of operators ps
---     lastAt ps          the offset of the last of them, 0 where there is none
+--     lastAt ps          the offset of the last of operators ps, 0 where there is none
 --     Walk bs done at    the operators `done` stand before at, and what is left of the bytes gives what the whole gives
 --     Checking ..        the same, with the state of the plan check: n widths in ws, the last operator at `last`
-use Prim.Native.Nat.{ℕ, _-_, _≤_, _<_}
+use Prim.Native.Nat.{ℕ, _-_, _≤_}
 use mathlib.Core.Path.{_≡_}
-use mathlib.Core.List.{List, [], _∷_, map}
+use mathlib.Core.List.{List, [], _∷_}
 use lib.ListN.{length, take}
 use Rattle.laws.specs.Attempt.{Reading, refuses, reads, reading}
-use Rattle.meaning.specs.Plan.{Op, Placed, lastOf, planFrom, planRead}
-use Rattle.theorems.specs.PlanFields.{Own, Width}
+use Rattle.meaning.specs.Plan.{Placed, lastOf, planFrom, planRead}
+use Rattle.theorems.specs.PlanFields.{Width}
+use Rattle.theorems.specs.PlanRead.{widthsOf}
 use Rattle.theorems.specs.PlanWidths.{Every}
 use Rattle.plans.specs.declared.Checked.{Checked}
 use Rattle.plans.specs.declared.Checked.the-variants.{Operators, Unsound}
@@ -23,14 +22,6 @@ checked (Unsound p) = refuses 5 p
 
 unfoldable pub planCount : List ℕ → Reading ℕ
 planCount bs = reading (planRead bs) (λ ps. reads (length ps))
-
-pub record Ends (bs : List ℕ) (at : ℕ) (x : Op × ℕ) : Type 0 where
-  pub after : at < x .1
-  pub within : x .1 ≤ length bs
-  pub own : Own (x .0)
-
-abbrev pub widthsOf : List Placed → List ℕ
-widthsOf ps = map (λ (p : Placed). p .width) ps
 
 unfoldable pub lastAt : List Placed → ℕ
 lastAt [] = 0

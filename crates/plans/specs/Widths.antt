@@ -1,17 +1,16 @@
--- The definitions' `widthOf` in the order in which the code works: the tables named, one test of their widths, the width.
+-- The definitions' `widthOf` in the order of the code: the tables named, one test of their widths, the width.
 --     tablesOf o         the tables that an operator names: none, or two; the second is the first where it names one
 --     suitable o w v     operator o suits tables of widths w and v
 --     madeWidth o w v    the width of the table that an operator of the code then makes
 --     widthField r       a width, or failing
 use Prim.Native.Nat.{ℕ, _+_}
-use mathlib.Core.List.{List}
 use mathlib.Core.Bool.{Bool, true, _&&_, _||_}
 use lib.Dec.{eqb, ltb, leb}
 use lib.ListN.{length}
 use Rattle.laws.specs.Attempt.{Attempt, fails, gives}
 use Rattle.meaning.specs.Plan.{Op, RT, RA, RP, RU, RD, RS, RJ, RN, RF, RV, RC, RE, RK, RX, RO, columns}
-use Rattle.plans.specs.declared.Operator.{Operator}
-use Rattle.plans.specs.declared.Operator.the-variants as Operator
+use Rattle.plan_records.specs.declared.Operator.{Operator}
+use Rattle.plan_records.specs.declared.Operator.the-variants as Operator
 use Rattle.plans.specs.declared.widths.Operands.{Operands}
 use Rattle.plans.specs.declared.widths.Operands.the-variants.{None, Of}
 use Rattle.plans.specs.declared.widths.Width.{Width}

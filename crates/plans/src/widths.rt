@@ -1,13 +1,12 @@
 // The width of the table that an operator makes, of the widths of the tables that it names.
 ghost use mathlib.Core.Path.{_≡_};
-ghost use mathlib.Core.Bool.{_&&_, _||_};
 ghost use Prim.Native.Nat.{_+_, _≤_, _<_};
 ghost use lib.ListN.{length, take};
 ghost use Rattle.meaning.specs.Plan;
-ghost use Rattle.plans.specs.Decoded.{operatorOf, Stands};
+ghost use Rattle.plan_records.specs.Decoded.{operatorOf, Stands};
 ghost use Rattle.plans.specs.Widths;
-use crate::Operator;
 use cells::byte;
+use plan_records::Operator;
 
 // The tables that an operator names: none, or t and u; u is t where it names only one.
 pub enum Operands {
@@ -58,20 +57,6 @@ pub fn tables(operator: Operator) -> Operands
     }
 }
 
-// Both hold.
-fn both(a: bool, b: bool) -> bool
-    ensures { λ r. ⌜ r ≡ a && b ⌝ }
-{
-    if a { b } else { false }
-}
-
-// One of the two holds, or both.
-fn either(a: bool, b: bool) -> bool
-    ensures { λ r. ⌜ r ≡ a || b ⌝ }
-{
-    if a { true } else { b }
-}
-
 // Whether the n columns from an offset on are all below w. Each is read once.
 fn below(plan: &[u8], from: usize, n: usize, w: usize) -> bool
     requires { ⌜ from + n ≤ length (now plan) ⌝ }
@@ -89,8 +74,8 @@ fn below(plan: &[u8], from: usize, n: usize, w: usize) -> bool
     true
 }
 
-// Whether an operator suits tables of widths w and v: its columns are columns, the widths are those it asks for, and its own
-// table is not too wide.
+// Whether an operator suits tables of widths w and v: its columns are columns, the widths are those it asks for, and
+// its own table is not too wide.
 fn suits(plan: &[u8], operator: Operator, w: usize, v: usize) -> bool
     requires { ⌜ Stands (now plan) operator × (w < 256) × (v < 256) ⌝ }
     ensures { λ r. ⌜ r ≡ Widths.suitable (operatorOf (now (plan .entry)) operator) w v ⌝ }
@@ -98,17 +83,16 @@ fn suits(plan: &[u8], operator: Operator, w: usize, v: usize) -> bool
     match operator {
         Operator::One => true,
         Operator::Attach { t: _, cell: _ } => w + 1 <= 6,
-        Operator::Project { t: _, n, from } => both(below(plan, from, n, w), n <= 6),
+        Operator::Project { t: _, n, from } => below(plan, from, n, w) & (n <= 6),
         Operator::Union { t: _, u: _ } => w == v,
         Operator::Minus { t: _, u: _ } => w == v,
         Operator::Select { t: _, c } => c < w,
-        Operator::Join { t: _, c, u: _, d } => both(both(c < w, d < v), w + v <= 6),
-        Operator::Number { t: _, p, n, from } => both(
-            both(either(p == 255, p < w), below(plan, from, n, w)),
-            w + 1 <= 6,
-        ),
-        Operator::Apply { t: _, f: _, c, d } => both(both(c < w, d < w), w + 1 <= 6),
-        Operator::Value { t: _, c } => both(c < w, w + 1 <= 6),
+        Operator::Join { t: _, c, u: _, d } => (c < w) & (d < v) & (w + v <= 6),
+        Operator::Number { t: _, p, n, from } => {
+            ((p == 255) | (p < w)) & below(plan, from, n, w) & (w + 1 <= 6)
+        }
+        Operator::Apply { t: _, f: _, c, d } => (c < w) & (d < w) & (w + 1 <= 6),
+        Operator::Value { t: _, c } => (c < w) & (w + 1 <= 6),
         Operator::Counts { t: _, c } => c < w,
         Operator::Truths { t: _ } => w == 3,
         Operator::Once { t: _, c } => c < w,

@@ -12,7 +12,7 @@ use Rattle.agreement.specs.Passing.{Held}
 use Rattle.agreement.proofs.EnginesAgree.{agree-in-hand}
 use Rattle.catalogue.specs.Answers as Catalogue
 use Rattle.catalogue.proofs.Decided as CatalogueDecided
-use Rattle.queries.specs.Decoded as Queries
+use Rattle.queries.specs.Answers as Queries
 use Rattle.queries.proofs.Decided as QueryDecided
 use Rattle.translator.specs.Answers as Translator
 use Rattle.translator.specs.declared.Translated.the-variants.{Plan}

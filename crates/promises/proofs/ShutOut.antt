@@ -13,6 +13,7 @@ use lib.Dec.{ltb}
 use native.Mathlib.Omega.{arith}
 use lib.IntN.{ℤ, pos}
 use lib.ListN.{length, take, replicate}
+use Rattle.cells.specs.Codes as Codes
 use Rattle.laws.specs.Lists as Lists
 use Rattle.laws.proofs.Booleans.{both-true}
 use Rattle.laws.specs.Rows as Rows
@@ -74,7 +75,7 @@ unfolding ten tenOps bytesOf firstAlone Lists.filter Lists.any Lists.all Lists.c
     Bytes.word Bytes.signed Bytes.int4 Bytes.int8 Bytes.fits Bytes.bytesOf Bytes.bits8 Attempt.attempt Attempt.reading
     Attempt.work Attempt.provided Attempt.unless Attempt.refusing Attempt.trying Attempt.within Attempt.each
     Catalogue.catalogueOf Catalogue.isName Catalogue.ownSound Catalogue.rowSound Catalogue.rowsSound Catalogue.deeper
-    Catalogue.sizesExact Catalogue.catalogueRead World.worldOf Query.functionOf Query.axisOf Query.testOf
+    Catalogue.sizesExact Catalogue.catalogueRead World.worldOf Codes.functionOf Codes.axisOf Codes.testOf
     Query.variableOf Query.fragmentOf Query.booleanOf Query.sized Query.recordOf Query.recordAt Query.bound Query.leaf
     Query.one Query.two Query.three Query.operands Query.read Query.queryRead
     Counted.stand Counted.adding Counted.loop Counted.evaluate Plan.plainIn Plan.columnsAt

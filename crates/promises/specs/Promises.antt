@@ -45,7 +45,7 @@ use Rattle.catalogue.specs.declared.Checked.{Checked as Catalogued}
 use Rattle.catalogue.specs.declared.Checked.the-variants.{Rows}
 use Rattle.catalogue.specs.Answers as Catalogue
 use Rattle.queries.specs.declared.Checked.{Checked}
-use Rattle.queries.specs.Decoded as Queries
+use Rattle.queries.specs.Answers as Queries
 use Rattle.translator.specs.declared.Translated.{Translated}
 use Rattle.translator.specs.declared.Translated.the-variants.{Plan}
 use Rattle.translator.specs.Answers as Translator

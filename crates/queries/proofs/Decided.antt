@@ -8,7 +8,7 @@ use Prim.Native.Nat.{ℕ}
 use mathlib.Core.Bool.{cond}
 use lib.Dec.{eqb}
 use Rattle.meaning.specs.Calls.{Answer, gives, refused, queryCall}
-use Rattle.queries.specs.Decoded.{answered}
+use Rattle.queries.specs.Answers.{answered}
 use Rattle.queries.specs.declared.Checked.{Checked}
 use Rattle.queries.specs.declared.Checked.the-variants.{Records, Unsound, Excess, Unbound}
 

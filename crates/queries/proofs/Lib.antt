@@ -1,10 +1,3 @@
-pub mod Outcomes
-pub mod Arms
-pub mod Fields
-pub mod Accepting
-pub mod Parsing
 pub mod Walking
 pub mod Callers
-pub mod Skipping
-pub mod FieldRanges
 pub mod Decided

@@ -25,19 +25,20 @@ use Rattle.meaning.specs.Query as Query
 use Rattle.meaning.specs.Query.{Query, Read, Record, Operand, bound, leaf, one, operands, read, recordAt, recordOf}
 use Rattle.meaning.specs.Query.{queryRead}
 use Rattle.meaning.specs.Calls.{Answer, refused, queryAnswer, queryCall}
-use Rattle.queries.specs.declared.Reading.{Reading as Found}
-use Rattle.queries.specs.declared.Reading.the-variants as Found
-use Rattle.queries.specs.declared.Decoded.{Decoded}
-use Rattle.queries.specs.declared.Operands.{Operands}
+use Rattle.query_records.specs.declared.Reading.{Reading as Found}
+use Rattle.query_records.specs.declared.Reading.the-variants as Found
+use Rattle.query_records.specs.declared.Decoded.{Decoded}
+use Rattle.query_records.specs.declared.Operands.{Operands}
 use Rattle.queries.specs.declared.Checked.the-variants as Checked
 use Rattle.queries.specs.declared.Walk.{Walk}
 use Rattle.queries.specs.declared.Walk.the-variants as Walk
-use Rattle.queries.specs.Decoded as Code
-use Rattle.queries.specs.Decoded.{readingOf, operandsOf, answered, walked}
+use Rattle.query_records.specs.Decoded as Code
+use Rattle.query_records.specs.Decoded.{readingOf, operandsOf}
+use Rattle.queries.specs.Answers.{answered, walked}
 use Rattle.queries.specs.Walk.{Passing, Walker, passes, two, three, steps, walk, answerOf, Flags}
-use Rattle.queries.proofs.Outcomes.{refusing-apart}
-use Rattle.queries.proofs.Fields.{record-sound}
-use Rattle.queries.specs.Statements.{Ranged}
+use Rattle.query_records.proofs.Outcomes.{refusing-apart}
+use Rattle.query_records.proofs.Fields.{record-sound}
+use Rattle.query_records.specs.Fields.{Ranged}
 use Rattle.queries.proofs.Walk.{the-type}
 
 -- Readings
@@ -127,7 +128,8 @@ module _ (rd : Operand) (wd : Walker) (ih : Walks rd wd) where
       three wd fs n at ≡ passes (Query.three f (rd vs n at) (rd vs) (rd vs))
   unfolding three Query.three
   three-walks f fs vs n at g =
-      reading-both (wd fs n at) (passes (rd vs n at)) (λ x. two wd fs fs (x .1) (x .0)) (λ x. two wd fs fs (x .1) (x .0))
+      reading-both (wd fs n at) (passes (rd vs n at))
+      (λ x. two wd fs fs (x .1) (x .0)) (λ x. two wd fs fs (x .1) (x .0))
       (ih fs vs n at g) (λ x. refl)
       ∙ sym
       (passes-then (rd vs n at) _ (λ x. two wd fs fs (x .1) (x .0))

@@ -1,5 +1,2 @@
-pub mod Decoded
-pub mod Arms
-pub mod Parse
+pub mod Answers
 pub mod Walk
-pub mod Statements

@@ -1,8 +1,10 @@
 -- The query check without its tree: what the code does, step by step. The bound variables are eight flags.
+--     Passing              an offset and the records so far, or a refusal
+--     Walker               how an operand is walked over: its flags, the records before it, its offset
 --     passes r             what reading finds, without the tree: the offset after it and the records so far
 --     two rd fs gs n at    two operands from an offset on, the first under the flags fs, the second under gs
 --     three rd fs n at     three operands from an offset on
---     steps rd fs at n next o    the operands of a record at an offset, n records so far with it, read by rd from next on
+--     steps rd fs at n next o    the operands of a record at an offset, n records with it, read by rd from next on
 --     walk d bs fs n at    the query at an offset, d more levels allowed, fs the flags of the variables bound there,
 --                          n records before it
 --     answerOf p           the answer where nothing follows
@@ -16,11 +18,10 @@ use lib.ListN.{length, getD, set}
 use Rattle.laws.specs.Attempt.{Reading, refuses, reads, reading, unless}
 use Rattle.meaning.specs.Calls.{Answer, refused}
 use Rattle.meaning.specs.Query.{Read, recordAt, bound}
-use Rattle.queries.specs.declared.Operands.{Operands}
-use Rattle.queries.specs.declared.Operands.the-variants.{None, Variable, One, Two, Binding, Three}
-use Rattle.queries.specs.Decoded.{operandsOf}
+use Rattle.query_records.specs.declared.Operands.{Operands}
+use Rattle.query_records.specs.declared.Operands.the-variants.{None, Variable, One, Two, Binding, Three}
+use Rattle.query_records.specs.Decoded.{operandsOf}
 
--- an offset, and the records so far
 abbrev pub Passing : Type 0
 Passing = Reading (ℕ × ℕ)
 

@@ -27,10 +27,10 @@ use Rattle.meaning.specs.World.{World}
 use Rattle.laws.proofs.Outcomes.{reads-same}
 use Rattle.tables.specs.declared.Stand.{Stand}
 use Rattle.tables.specs.Layout.{tableAt}
-use Rattle.plans.specs.declared.Decoded.{Decoded}
+use Rattle.plan_records.specs.declared.Decoded.{Decoded}
 use Rattle.plans.specs.Accepted.{Ahead, Turn, placed}
-use Rattle.plans.specs.Decoded.{operatorOf}
-use Rattle.plans.specs.Walk.{widthsOf}
+use Rattle.plan_records.specs.Decoded.{operatorOf}
+use Rattle.theorems.specs.PlanRead.{widthsOf}
 use Rattle.plans.proofs.Callers.{ahead-start, ahead-end, plan-last}
 use Rattle.plans.proofs.Walking.{last-width, widths-more, widths-length}
 use Rattle.directory.specs.Directory.{standAt, entered, tablesIn, widthsIn, Listed, EndToEnd, Entry}

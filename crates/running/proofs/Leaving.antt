@@ -22,11 +22,11 @@ use Rattle.meaning.specs.World.{World}
 use Rattle.tables.specs.declared.Laid.the-variants as Laid
 use Rattle.tables.specs.Layout.{Owes}
 use Rattle.axes.specs.Steps.{Ready}
-use Rattle.plans.specs.declared.Decoded.{Decoded}
-use Rattle.plans.specs.declared.Reading.{Reading as Read}
-use Rattle.plans.specs.declared.Reading.the-variants as Read
+use Rattle.plan_records.specs.declared.Decoded.{Decoded}
+use Rattle.plan_records.specs.declared.Reading.{Reading as Read}
+use Rattle.plan_records.specs.declared.Reading.the-variants as Read
 use Rattle.plans.specs.Accepted.{Turn}
-use Rattle.plans.specs.Decoded.{operatorOf, Means}
+use Rattle.plan_records.specs.Decoded.{operatorOf, Means}
 use Rattle.cells.specs.Bytes.{Bytes}
 use Rattle.plans.proofs.Callers.{ahead-unread, ahead-turn}
 use Rattle.directory.specs.Directory.{standAt, entered, tablesIn, EndToEnd}

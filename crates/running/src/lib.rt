@@ -7,7 +7,7 @@ ghost use Rattle.meaning.specs.Catalogue.{catalogueOf};
 ghost use Rattle.meaning.specs.Operators.{make};
 ghost use Rattle.meaning.specs.World.{worldOf};
 ghost use Rattle.axes.specs.Steps.{Known, Ready};
-ghost use Rattle.plans.specs.Decoded.{operatorOf};
+ghost use Rattle.plan_records.specs.Decoded.{operatorOf};
 ghost use Rattle.directory.specs.Directory.{tablesIn, Listed};
 ghost use Rattle.directory.specs.Sound.{madeWidth, Sound};
 ghost use Rattle.running.specs.Leaving.{Walks, Accepted, carriedOut, Goes, refusedAt};
@@ -16,8 +16,8 @@ use directory::stand;
 use directory::width;
 use operators::Top;
 use operators::perform;
-use plans::Operator;
-use plans::Reading;
+use plan_records::Operator;
+use plan_records::Reading;
 use tables::Laid;
 use tables::Stand;
 
@@ -132,7 +132,7 @@ fn walk(
     let mut tables: usize = 0;
     let mut filled: usize = 0;
     while at < plan.len() {
-        let Reading::Sound(found) = plans::read(plan, at) else {
+        let Reading::Sound(found) = plan_records::read(plan, at) else {
             // never: an accepted plan has a sound record at each offset before its end
             return Walked::Fails(at);
         };

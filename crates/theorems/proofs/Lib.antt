@@ -6,4 +6,6 @@ pub mod PlanBound
 pub mod PlanWidths
 pub mod PlanFields
 pub mod PlanBytes
+pub mod Ranges
+pub mod PlanSteps
 pub mod PlanRead

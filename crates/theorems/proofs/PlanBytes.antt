@@ -29,12 +29,13 @@ use Rattle.cells.specs.declared.Axis.the-variants.{Following, Preceding}
 use Rattle.cells.specs.declared.Test.{Test}
 use Rattle.cells.specs.declared.Test.the-variants.{AnyNode, Element, Text, Named}
 use Rattle.laws.specs.Attempt.{Attempt, gives, attempt, provided}
-use Rattle.meaning.specs.Query.{functionOf, axisOf, testOf, fragmentOf}
+use Rattle.meaning.specs.Query.{fragmentOf}
+use Rattle.cells.specs.Codes.{functionOf, axisOf, testOf, functionNumber, axisNumber, testNumber, testName}
 use Rattle.meaning.specs.Plan.{Op, RT, RA, RP, RU, RD, RS, RJ, RN, RF, RV, RC, RE, RK, RX, RO, markRT, markRA, markRP}
 use Rattle.meaning.specs.Plan.{markRU, markRD, markRS, markRJ, markRN, markRF, markRC, markRE, markRK, markRX, markRO}
 use Rattle.meaning.specs.Plan.{plainIn, columnsAt, sized, attachAt, projectAt, numberAt, functionAt, stepAt, operatorOf}
 use Rattle.meaning.specs.Plan.{operatorAt}
-use Rattle.meaning.specs.Written.{functionNumber, axisNumber, testNumber, testName, operatorBytes}
+use Rattle.meaning.specs.Written.{operatorBytes}
 use Rattle.theorems.proofs.PlanWidths.{every-append}
 use Rattle.theorems.specs.PlanWidths.{Every}
 use Rattle.theorems.specs.PlanFields.{Writable}

@@ -20,7 +20,7 @@ use Rattle.meaning.specs.Plan.{Op, RT, RA, RP, RU, RD, RS, RJ, RN, RF, RV, RC, 
 use Rattle.meaning.specs.Plan.{upTo6, columns, widthOf}
 use Rattle.meaning.specs.Translation.{Made, Tables, next, freeIn, othersIn, lifts, ruleL, ruleR, ruleE, tailS, headF}
 use Rattle.meaning.specs.Translation.{tailF, headI, tailO, tailC, tailD, tailX, then, tr, tailLast, plan}
-use Rattle.meaning.specs.Written.{testName}
+use Rattle.cells.specs.Codes.{testName}
 use Rattle.theorems.specs.Closed.{Closed}
 use Rattle.theorems.proofs.PlanWidths.{every-getD, every-append, or-true, attempt-gives, provided-gives}
 use Rattle.theorems.proofs.PlanWidths.{plan-widths}

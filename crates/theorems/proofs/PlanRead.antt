@@ -26,14 +26,15 @@ use Rattle.laws.specs.Attempt.{unless}
 use Rattle.meaning.specs.Query.{Query, QL, QE, QR, QV, QS, QT, QF, QI, QO, QC, QD, QX, Record, literal, empty, root}
 use Rattle.meaning.specs.Query.{variable, sequence, letting, for, choice, function, counting, values, step, markQL}
 use Rattle.meaning.specs.Query.{markQB, markQE, markQR, markQV, markQS, markQT, markQF, markQI, markQO, markQC, markQD}
-use Rattle.meaning.specs.Query.{markQX, functionOf, axisOf, testOf, variableOf, fragmentOf, booleanOf, sized, recordOf}
+use Rattle.meaning.specs.Query.{markQX, variableOf, fragmentOf, booleanOf, sized, recordOf}
+use Rattle.cells.specs.Codes.{functionOf, axisOf, testOf, testName}
 use Rattle.meaning.specs.Query.{recordAt, Read, Operand, bound, leaf, one, two, three, operands, read, queryRead}
 use Rattle.meaning.specs.Plan.{plainIn, Op, RT, RA, RP, RU, RD, RS, RJ, RN, RF, RV, RC, RE, RK, RX, RO, operatorAt}
 use Rattle.meaning.specs.Plan.{widthOf, Placed, placedAt, lastOf, ended, planFrom, planRead}
 use Rattle.meaning.specs.Translation.{plan}
 use Rattle.cells.specs.Bytes.{bytesOf}
 use Rattle.laws.specs.Lists.{gather}
-use Rattle.meaning.specs.Written.{testName, operatorBytes, written}
+use Rattle.meaning.specs.Written.{operatorBytes, written}
 use Rattle.meaning.specs.Calls.{refusal, planOf, translateOutcome, translateCall}
 use Rattle.laws.specs.Rows.{padded}
 use Rattle.meaning.specs.Calls as Calls
@@ -41,10 +42,13 @@ use Rattle.theorems.proofs.PlanBytes.{writable-back, operator-small, op
 use Rattle.theorems.specs.PlanBytes.{Byte}
 use Rattle.theorems.proofs.PlanWidths.{every-append, attempt-gives, provided-gives, widths-count}
 use Rattle.theorems.specs.PlanWidths.{Every, widths}
-use Rattle.laws.proofs.Booleans.{both-true}
+use Rattle.laws.proofs.Filters.{map-append}
+use Rattle.cells.proofs.Numbers.{name-fits}
+use Rattle.theorems.proofs.Ranges.{variable-below, fragment-within}
+use Rattle.theorems.proofs.PlanSteps.{from-end, from-on, placed-is}
 use Rattle.theorems.proofs.PlanFields.{plan-sound}
 use Rattle.theorems.specs.PlanFields.{Writable, Fields}
-use Rattle.theorems.specs.PlanRead.{ClosedFields, places, PlanBack, Translated}
+use Rattle.theorems.specs.PlanRead.{ClosedFields, widthsOf, places, PlanBack, Translated}
 
 -- The fields of a record that is read
 
@@ -119,25 +123,6 @@ boolean-plain b =
     given-cond _ (eqb b 0) _ _ (λ e. given-one _ falseCell refl)
     (given-cond _ (eqb b 1) _ _ (λ e. given-one _ trueCell refl) (given-none _))
 
-fragment-within : (b : ℕ) → Given (λ k. (1 ≤ k) × (k ≤ 255)) (fragmentOf b)
-unfolding fragmentOf
-fragment-within b =
-    given-provided _ (leb 1 b && leb b 255) _
-    (λ e. let (l, u) = both-true (leb 1 b) (leb b 255) e in given-one _ b (leb-true 1 b l, leb-true b 255 u))
-
-variable-below : (b : ℕ) → Given (λ v. v < 8) (variableOf b)
-unfolding variableOf
-variable-below b = given-provided _ (ltb b 8) _ (λ e. given-one _ b (ltb-true b 8 e))
-
-test-name : (n name : ℕ) → name < 65536 → Given (λ t. testName t < 65536) (testOf n name)
-unfolding testOf testName
-test-name n name h =
-    given-cond _ (eqb n 3) _ _ (λ e. given-one _ (Named name) h)
-    (given-provided _ (eqb name 0) _
-    (λ e. given-cond _ (eqb n 0) _ _ (λ e. given-one _ AnyNode (lit< tt))
-    (given-cond _ (eqb n 1) _ _ (λ e. given-one _ Element (lit< tt))
-    (given-cond _ (eqb n 2) _ _ (λ e. given-one _ Text (lit< tt)) (given-none _)))))
-
 module _ (bs : List ℕ) (at : ℕ) (h : (i : ℕ) → byteAt bs i < 256) where
   abbrev First : Record × ℕ → Type 0
   First x = RecordFields (x .0)
@@ -167,7 +152,7 @@ module _ (bs : List ℕ) (at : ℕ) (h : (i : ℕ) → byteAt bs i < 256) where
       (λ x p.
       given-attempt RecordFields (testOf t (word bs (at + 4) 2)) _
       (λ y q.
-      given-one RecordFields (step x y) (test-name t (word bs (at + 4) 2) (word-small bs (at + 4) 2 h) y q))))
+      given-one RecordFields (step x y) (name-fits t (word bs (at + 4) 2) (word-small bs (at + 4) 2 h) .given y q))))
 
   record-fields : (mark : ℕ) → Given First (recordOf bs at mark)
   unfolding recordOf RecordFields
@@ -176,11 +161,11 @@ module _ (bs : List ℕ) (at : ℕ) (h : (i : ℕ) → byteAt bs i < 256) where
       given-cond First (eqb mark markQL) _ _ (λ e. plain 6 (literal (int4 bs (at + 2))) (int4-plain bs (at + 2) h))
       (given-cond First (eqb mark markQB) _ _ (λ e. field 3 (booleanOf b) literal (boolean-plain b))
       (given-cond First (eqb mark markQE) _ _ (λ e. plain 2 empty tt)
-      (given-cond First (eqb mark markQR) _ _ (λ e. field 3 (fragmentOf b) root (fragment-within b))
-      (given-cond First (eqb mark markQV) _ _ (λ e. field 3 (variableOf b) variable (variable-below b))
+      (given-cond First (eqb mark markQR) _ _ (λ e. field 3 (fragmentOf b) root (fragment-within b .given))
+      (given-cond First (eqb mark markQV) _ _ (λ e. field 3 (variableOf b) variable (variable-below b .given))
       (given-cond First (eqb mark markQS) _ _ (λ e. plain 2 sequence tt)
-      (given-cond First (eqb mark markQT) _ _ (λ e. field 3 (variableOf b) letting (variable-below b))
-      (given-cond First (eqb mark markQF) _ _ (λ e. field 3 (variableOf b) for (variable-below b))
+      (given-cond First (eqb mark markQT) _ _ (λ e. field 3 (variableOf b) letting (variable-below b .given))
+      (given-cond First (eqb mark markQF) _ _ (λ e. field 3 (variableOf b) for (variable-below b .given))
       (given-cond First (eqb mark markQI) _ _ (λ e. plain 2 choice tt)
       (given-cond First (eqb mark markQO) _ _ (λ e. field 3 (functionOf b) function (λ f e. tt))
       (given-cond First (eqb mark markQC) _ _ (λ e. plain 2 counting tt)
@@ -326,9 +311,6 @@ query-accepted bs h r e =
 
 -- A plan read back
 
-abbrev widthsOf : List Placed → List ℕ
-widthsOf ps = map (λ (p : Placed). p .width) ps
-
 pub places-ops :
     (at : ℕ) (os : List Op) (ws : List ℕ) → length ws ≡ length os → map (λ (p : Placed). p .op) (places at os ws) ≡ os
 unfolding places
@@ -374,41 +356,6 @@ operator-bytes (RK t c) = zero-lt-suc _
 operator-bytes (RX t x y) = zero-lt-suc _
 operator-bytes (RO t k) = zero-lt-suc _
 
-placed-back :
-    (bs ws : List ℕ) (at next : ℕ) (o : Op) (w : ℕ) → operatorAt bs at ≡ gives (o, next) → widthOf ws o ≡ gives w →
-    placedAt bs ws at ≡ gives (record { at = at; op = o; width = w }, next)
-unfolding placedAt attempt
-placed-back bs ws at next o w p q = rw (p, q)
-
--- at the end of the bytes, and before it
-abbrev turn : Reading (List Placed) → Reading (List Placed) → Bool → Reading (List Placed)
-turn a b t = elim t [ true ↦ a | false ↦ b ]
-
-from-end : (left : ℕ) (bs : List ℕ) (ps : List Placed) (at : ℕ) → length bs ≤ at → planFrom left bs ps at ≡ ended ps
-unfolding planFrom
-from-end zero bs ps at h = ap (turn (ended ps) (refuses 5 at)) (le-leb (length bs) at h)
-from-end (suc left) bs ps at h =
-    ap
-    (turn (ended ps)
-    (reading (refusing 5 at (placedAt bs (widthsOf ps) at)) (λ o. planFrom left bs (ps ++ (o .0 ∷ [])) (o .1))))
-    (le-leb (length bs) at h)
-
-reading-of :
-    (at : ℕ) (a : Attempt (Placed × ℕ)) (x : Placed × ℕ) (f : Placed × ℕ → Reading (List Placed)) → a ≡ gives x →
-    reading (refusing 5 at a) f ≡ f x
-unfolding reading refusing
-reading-of at a x f e = rw e
-
-from-one :
-    (left : ℕ) (bs : List ℕ) (ps : List Placed) (at next : ℕ) (p : Placed) → at < length bs →
-    placedAt bs (widthsOf ps) at ≡ gives (p, next) →
-    planFrom (suc left) bs ps at ≡ planFrom left bs (ps ++ (p ∷ [])) next
-unfolding planFrom
-from-one left bs ps at next p h e =
-    let go : Placed × ℕ → Reading (List Placed) = λ o. planFrom left bs (ps ++ (o .0 ∷ [])) (o .1) in
-    ap (turn (ended ps) (reading (refusing 5 at (placedAt bs (widthsOf ps) at)) go)) (lt-leb (length bs) at h)
-    ∙ reading-of at (placedAt bs (widthsOf ps) at) (p, next) go e
-
 -- what operators add to the widths stands after them
 widths-front : (os : List Op) (ws us : List ℕ) → widths ws os ≡ gives us → (vs : List ℕ) × (us ≡ ws ++ vs)
 unfolding widths
@@ -431,10 +378,6 @@ widths-next o os ws vs e =
     let (us, r) = widths-front os (ws ++ (w ∷ [])) (ws ++ vs) q in
     (w, us, append-cancel-left ws vs (w ∷ us) (r ∙ append-assoc ws (w ∷ []) us), p, q ∙ ap gives r)
 
-map-append : {A B : Type 0} (f : A → B) (xs ys : List A) → map f (xs ++ ys) ≡ map f xs ++ map f ys
-map-append f [] ys = refl
-map-append f (x ∷ xs) ys = ap (λ zs. f x ∷ zs) (map-append f xs ys)
-
 module _ (o : Op) (os : List Op) (left : ℕ) (xs : List ℕ) (ps : List Placed) (w : ℕ) (us : List ℕ) where
   abbrev ob : List ℕ
   ob = operatorBytes o
@@ -452,8 +395,8 @@ module _ (o : Op) (os : List Op) (left : ℕ) (xs : List ℕ) (ps : List Placed)
       let bs : List ℕ = xs ++ (ob ++ written os) in
       let there : length xs < length bs = simp length-append (omega (arith, operator-bytes o)) in
       let next : ℕ = length xs + length ob in
-      let one = placed-back bs (widthsOf ps) (length xs) next o w (writable-back o k xs (written os)) q in
-      from-one left bs ps (length xs) next placed there one
+      let one = placed-is bs (widthsOf ps) (length xs) next o w (writable-back o k xs (written os)) q in
+      from-on bs ps (length xs) there left next placed one
       ∙ ap₂ (λ b n. planFrom left b (ps ++ (placed ∷ [])) n)
       (sym (append-assoc xs ob (written os)))
       (sym (length-append xs ob))
@@ -468,7 +411,7 @@ from-back :
     planFrom left (xs ++ written os) ps (length xs) ≡ ended (ps ++ places (length xs) os vs)
 unfolding written gather places Every
 from-back [] left xs ps vs h k e =
-    from-end left (xs ++ []) ps (length xs) (simp append-nil (omega arith)) ∙ ap ended (sym (append-nil ps))
+    from-end (xs ++ []) ps (length xs) left (simp append-nil (omega arith)) ∙ ap ended (sym (append-nil ps))
 from-back (o ∷ os) zero xs ps vs h k e = absurd (omega arith)
 from-back (o ∷ os) (suc left) xs ps vs h k e =
     let (w, us, p, q, r) = widths-next o os (widthsOf ps) vs e in

@@ -1,5 +1,6 @@
 -- A written plan that reads back (document 01, 'Query records' and 'Plan operators').
 --     ClosedFields q vs   q is closed under the variables vs, and its fields are in their ranges
+--     widthsOf ps         the widths of the tables of operators ps
 --     places at os ws     operators with the offsets where their records start, from at on, and with widths ws
 --     PlanBack os ps      the plan os is sound, its bytes are bytes, and they read as ps, which are os in place
 --     Translated ..       the first m lent bytes are the plan of the query, which has n operators, at most 512
@@ -17,6 +18,9 @@ use Rattle.theorems.specs.Closed.{Closed}
 use Rattle.theorems.specs.PlanBytes.{Byte}
 use Rattle.theorems.specs.PlanFields.{Width, Fields}
 use Rattle.theorems.specs.PlanWidths.{Every, widths}
+
+abbrev pub widthsOf : List Placed → List ℕ
+widthsOf ps = map (λ (p : Placed). p .width) ps
 
 pub record ClosedFields (q : Query) (vs : List ℕ) : Type 0 where
   pub closed : Closed q vs

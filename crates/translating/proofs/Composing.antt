@@ -14,7 +14,7 @@ use Rattle.meaning.specs.Plan.{Op, RU}
 use Rattle.meaning.specs.Query.{Query, QT, QF, QI, free}
 use Rattle.meaning.specs.Translation.{Made, Tables, next, hold, freeIn, othersIn, lifts, lifted, headF, tailF, headI}
 use Rattle.meaning.specs.Translation.{then, tr}
-use Rattle.queries.specs.Parse.{Parsed, Free}
+use Rattle.query_walks.specs.Parse.{Parsed, Free}
 use Rattle.rules.specs.declared.Pen.{Pen}
 use Rattle.rules.specs.declared.Output.{Output}
 use Rattle.rules.specs.declared.Lifted.{Lifted}

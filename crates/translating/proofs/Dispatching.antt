@@ -16,15 +16,16 @@ use Rattle.cells.specs.Bytes.{word}
 use Rattle.meaning.specs.Query.{QL, QE, QR, QV, recordOf}
 use Rattle.meaning.specs.Translation.{tr, ruleL, ruleE, ruleR}
 use Rattle.laws.proofs.Outcomes.{fails-gives}
-use Rattle.queries.specs.declared.Reading.{Reading as Found}
-use Rattle.queries.specs.declared.Reading.the-variants as Found
-use Rattle.queries.specs.declared.Decoded.{Decoded}
-use Rattle.queries.specs.declared.Record.{Record}
-use Rattle.queries.specs.Decoded as Code
-use Rattle.queries.specs.Decoded.{SmallLiteral, Means}
-use Rattle.queries.specs.Parse.{trees, parse}
-use Rattle.queries.specs.Statements.{Ranged}
-use Rattle.queries.proofs.Callers.{unfound-parses, found-parses, found-sound, found-small, shallow-parses}
+use Rattle.query_records.specs.declared.Reading.{Reading as Found}
+use Rattle.query_records.specs.declared.Reading.the-variants as Found
+use Rattle.query_records.specs.declared.Decoded.{Decoded}
+use Rattle.query_records.specs.declared.Record.{Record}
+use Rattle.query_records.specs.Decoded as Code
+use Rattle.query_records.specs.Decoded.{SmallLiteral, Means}
+use Rattle.query_walks.specs.Parse.{trees, parse}
+use Rattle.query_records.specs.Fields.{Ranged}
+use Rattle.query_walks.proofs.Callers.{unfound-parses, found-parses, shallow-parses}
+use Rattle.query_records.proofs.Callers.{found-sound, found-small}
 use Rattle.rules.specs.declared.Pen.{Pen}
 use Rattle.rules.specs.declared.Output.{Output}
 use Rattle.rules.specs.Ruled.{Wrote, Ruled}

@@ -18,7 +18,7 @@ use Rattle.meaning.specs.Query.{Query, QI}
 use Rattle.meaning.specs.Translation.{Tables, tr, then, lifts, lifted, freeIn, headF, headI}
 use Rattle.theorems.specs.Closed.{records}
 use Rattle.theorems.proofs.PlanBound.{tr-bound, length-lifts, length-freeIn}
-use Rattle.queries.specs.Parse.{Parsed}
+use Rattle.query_walks.specs.Parse.{Parsed}
 use Rattle.rules.specs.declared.Pen.{Pen}
 use Rattle.rules.specs.declared.Output.{Output}
 use Rattle.rules.specs.declared.Lifted.{Lifted}

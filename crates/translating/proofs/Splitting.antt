@@ -12,8 +12,8 @@ use Rattle.meaning.specs.Query.{Query}
 use Rattle.meaning.specs.Translation.{Made, Tables, tr}
 use Rattle.theorems.specs.Closed.{records}
 use Rattle.laws.proofs.Outcomes.{gives-same}
-use Rattle.queries.specs.Parse.{Parsed, lone, pair, triple}
-use Rattle.queries.proofs.Parsing.{lone-gives, pair-gives, triple-gives}
+use Rattle.query_walks.specs.Parse.{Parsed, lone, pair, triple}
+use Rattle.query_walks.proofs.Parsing.{lone-gives, pair-gives, triple-gives}
 use Rattle.rules.specs.declared.Pen.{Pen}
 use Rattle.rules.specs.declared.Output.{Output}
 use Rattle.rules.specs.Ruled.{Room, Ruled}

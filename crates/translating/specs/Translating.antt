@@ -16,7 +16,7 @@ use Rattle.laws.specs.Attempt.{gives}
 use Rattle.meaning.specs.Query.{Query}
 use Rattle.meaning.specs.Translation.{Made, Tables, tr, then, lifts, lifted, freeIn}
 use Rattle.theorems.specs.Closed.{records}
-use Rattle.queries.specs.Parse.{Parsed}
+use Rattle.query_walks.specs.Parse.{Parsed}
 use Rattle.rules.specs.declared.Pen.{Pen}
 use Rattle.rules.specs.declared.Output.{Output}
 use Rattle.rules.specs.Ruled.{Room, Ruled, Holds}

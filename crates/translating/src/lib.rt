@@ -2,14 +2,14 @@
 use cells::Axis;
 use cells::Function;
 use cells::Test;
-use queries::Reading;
-use queries::Record;
+use query_records::Reading;
+use query_records::Record;
 use rules::Output;
 use rules::Pen;
 ghost use mathlib.Core.Path.{_≡_};
 ghost use lib.ListN.{getD};
 ghost use Rattle.meaning.specs.Query.{QS, QT, QF, QI, QO, QC, QD, QX};
-ghost use Rattle.queries.specs.Parse.{parse};
+ghost use Rattle.query_walks.specs.Parse.{parse};
 ghost use Rattle.translating.specs.Translating.{Asked, AskedOne, AskedTwo, AskedThree, AskedBranch};
 ghost use Rattle.translating.specs.Translating.{Makes, MakesOne, MakesTwo, MakesThree, MakesBranch};
 
@@ -36,7 +36,7 @@ pub fn expression(
     ensures { λ r. ⌜ Makes (parse depth (now (query .entry)) at) l tables (now (plan .entry)) pen (now (plan .exit))
         r ⌝ }
 {
-    let Reading::Sound(found) = queries::read(query, at) else {
+    let Reading::Sound(found) = query_records::read(query, at) else {
         return variable(tables, 0, pen, at);
     };
     let kind = found.kind;
@@ -142,7 +142,7 @@ fn for_each(
     let p = a.pen;
     let m = p.operators;
     let q = rules::for_head(plan, p, a.table);
-    let others = rules::without(queries::free(query, body, depth), v);
+    let others = rules::without(query_walks::free(query, body, depth), v);
     let lifted = rules::lift(plan, q, tables, others, m + 4, 4);
     let outer = lifted.tables;
     let inner = rules::hold(outer, v, m + 2);
@@ -191,7 +191,7 @@ fn branch(
     ensures { λ r. ⌜ MakesBranch (parse depth (now (query .entry)) at) l tables (now (plan .entry)) pen (now
         (plan .exit)) r ⌝ }
 {
-    let flags = queries::free(query, at, depth);
+    let flags = query_walks::free(query, at, depth);
     let lifted = rules::lift(plan, pen, tables, flags, l, 0);
     let inner = lifted.tables;
     let p = lifted.pen;

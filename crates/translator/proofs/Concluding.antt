@@ -26,9 +26,9 @@ use Rattle.laws.specs.Rows.{padded}
 use Rattle.theorems.specs.Closed.{records}
 use Rattle.queries.specs.declared.Checked.{Checked}
 use Rattle.queries.specs.declared.Checked.the-variants as Checked
-use Rattle.queries.specs.Decoded as Queries
-use Rattle.queries.specs.Parse.{parse}
-use Rattle.queries.proofs.Accepting.{query-accepted}
+use Rattle.queries.specs.Answers as Queries
+use Rattle.query_walks.specs.Parse.{parse}
+use Rattle.query_walks.proofs.Accepting.{query-accepted}
 use Rattle.writing.proofs.Penned.{cleared-from-0, cleared-penned}
 use Rattle.rules.specs.declared.Pen.{Pen}
 use Rattle.rules.specs.declared.Output.{Output}

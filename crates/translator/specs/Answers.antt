@@ -12,8 +12,8 @@ use Rattle.laws.specs.Attempt.{gives}
 use Rattle.meaning.specs.Calls.{Answer, refused, planOf, translateOutcome}
 use Rattle.theorems.specs.Closed.{records}
 use Rattle.queries.specs.declared.Checked.{Checked}
-use Rattle.queries.specs.Decoded as Queries
-use Rattle.queries.specs.Parse.{parse}
+use Rattle.queries.specs.Answers as Queries
+use Rattle.query_walks.specs.Parse.{parse}
 use Rattle.translator.specs.declared.Translated.{Translated}
 use Rattle.translator.specs.declared.Translated.the-variants.{Plan, Unsound, Excess, Unbound, Longer}
 

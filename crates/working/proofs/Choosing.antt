@@ -18,8 +18,8 @@ use Rattle.meaning.specs.Query.{Query, QI}
 use Rattle.meaning.specs.Query as Query
 use Rattle.meaning.specs.Meaning.{Env}
 use Rattle.meaning.specs.Counted.{Standing, stand, evaluate}
-use Rattle.queries.specs.Parse.{Parsed, trees, Past}
-use Rattle.queries.proofs.Parsing.{triple-gives}
+use Rattle.query_walks.specs.Parse.{Parsed, trees, Past}
+use Rattle.query_walks.proofs.Parsing.{triple-gives}
 use Rattle.stack.specs.declared.Stood.{Stood}
 use Rattle.stack.specs.declared.Stood.the-variants as Stood
 use Rattle.stack.specs.Stack.{stood, Ends, At, raising, Leaves}

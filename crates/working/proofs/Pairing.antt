@@ -18,7 +18,7 @@ use Rattle.laws.proofs.Rows.{length-row}
 use Rattle.laws.specs.Attempt.{Work, done, work}
 use Rattle.meaning.specs.World.{World}
 use Rattle.meaning.specs.Counted.{Standing, stand, evaluate}
-use Rattle.queries.specs.Parse.{Parsed}
+use Rattle.query_walks.specs.Parse.{Parsed}
 use Rattle.stack.specs.declared.Stood.{Stood}
 use Rattle.stack.specs.declared.Stood.the-variants as Stood
 use Rattle.stack.specs.declared.Pair.{Pair}

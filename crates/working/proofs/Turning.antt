@@ -27,8 +27,8 @@ use Rattle.meaning.specs.Query.{Query, QF}
 use Rattle.meaning.specs.Query as Query
 use Rattle.meaning.specs.Meaning.{Env, bind}
 use Rattle.meaning.specs.Counted.{Standing, stand, evaluate, loop}
-use Rattle.queries.specs.Parse.{Parsed, trees, Past}
-use Rattle.queries.proofs.Parsing.{pair-gives}
+use Rattle.query_walks.specs.Parse.{Parsed, trees, Past}
+use Rattle.query_walks.proofs.Parsing.{pair-gives}
 use Rattle.stack.specs.declared.Stood.{Stood}
 use Rattle.stack.specs.declared.Stood.the-variants as Stood
 use Rattle.stack.specs.declared.Pair.{Pair}

@@ -28,8 +28,8 @@ use Rattle.meaning.specs.Query.{Query, QS, QT, QO, QC, QD, QX}
 use Rattle.meaning.specs.Meaning.{Env}
 use Rattle.meaning.specs.Counted.{Standing, stand, evaluate}
 use Rattle.laws.proofs.Outcomes.{fails-gives, gives-same}
-use Rattle.queries.specs.Parse.{Parsed, lone, pair}
-use Rattle.queries.proofs.Parsing.{lone-gives, pair-gives}
+use Rattle.query_walks.specs.Parse.{Parsed, lone, pair}
+use Rattle.query_walks.proofs.Parsing.{lone-gives, pair-gives}
 use Rattle.stack.specs.declared.Stood.{Stood}
 use Rattle.stack.specs.declared.Stood.the-variants as Stood
 use Rattle.stack.specs.declared.Pair.{Pair}

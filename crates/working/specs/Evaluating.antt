@@ -23,7 +23,7 @@ use Rattle.meaning.specs.World.{World}
 use Rattle.meaning.specs.Query.{Query}
 use Rattle.meaning.specs.Meaning.{Env, bind}
 use Rattle.meaning.specs.Counted.{Standing, evaluate, loop}
-use Rattle.queries.specs.Parse.{Parsed}
+use Rattle.query_walks.specs.Parse.{Parsed}
 use Rattle.stack.specs.declared.Stood.{Stood}
 use Rattle.stack.specs.declared.Stood.the-variants as Stood
 use Rattle.stack.specs.declared.Pair.{Pair}

@@ -2,8 +2,8 @@
 use cells::Axis;
 use cells::Test;
 use items::Judged;
-use queries::Reading;
-use queries::Record;
+use query_records::Reading;
+use query_records::Record;
 use stack::Pair;
 use stack::Stood;
 ghost use mathlib.Core.Path.{_≡_};
@@ -13,7 +13,7 @@ ghost use Rattle.meaning.specs.Catalogue.{catalogueOf};
 ghost use Rattle.meaning.specs.World.{worldOf};
 ghost use Rattle.meaning.specs.Counted.{adding};
 ghost use Rattle.meaning.specs.Query;
-ghost use Rattle.queries.specs.Parse.{parse, trees};
+ghost use Rattle.query_walks.specs.Parse.{parse, trees};
 ghost use Rattle.axes.specs.Steps.{Known};
 ghost use Rattle.stack.specs.Stack.{stood, Fit, Ends, At, Leaves, Lent};
 ghost use Rattle.stack.specs.Arms.{stepped};
@@ -255,7 +255,7 @@ fn each_item(
     else {
         return a;
     };
-    let end = queries::skip(query, next, depth);
+    let end = query_walks::skip(query, next, depth);
     let results = turns(
         query,
         doc,
@@ -334,8 +334,8 @@ fn choice(
     let Judged::Is(chosen) = truth else {
         return Stood::Failed(place);
     };
-    let past = queries::skip(query, next, depth);
-    let last = queries::skip(query, past, depth);
+    let past = query_walks::skip(query, next, depth);
+    let last = query_walks::skip(query, past, depth);
     let a = branch(
         chosen,
         query,
@@ -383,7 +383,7 @@ pub fn work_out(
     if depth == 0 {
         return Stood::Failed(at);
     }
-    let reading = queries::read(query, at);
+    let reading = query_records::read(query, at);
     let Reading::Sound(found) = reading else {
         return Stood::Failed(at);
     };

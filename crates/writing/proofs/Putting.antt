@@ -57,7 +57,8 @@ pub pens-as :
 pens-as {at} {n} {xs} {ys} {before} {after} e p = subst (λ (l : List ℕ). Pens at l before after n) e p
 
 pub pens-first :
-    {at n x y : ℕ} {xs before after : List ℕ} → x ≡ y → Pens at (x ∷ xs) before after n → Pens at (y ∷ xs) before after n
+    {at n x y : ℕ} {xs before after : List ℕ} → x ≡ y →
+    Pens at (x ∷ xs) before after n → Pens at (y ∷ xs) before after n
 pens-first {at} {n} {x} {y} {xs} e p = pens-as (ap (λ (b : ℕ). b ∷ xs) e) p
 
 -- one operator after another

@@ -1,4 +1,4 @@
--- Writing over lent bytes (document 01, refusal 8): the position runs on past their end; what does not fit is not written.
+-- Writing over lent bytes (document 01, refusal 8): the position runs on past their end; what does not fit is left out.
 --     penned xs at ys                xs with ys written over it from `at` on, as far as xs reaches
 --     Pens at ys before after next   ys written over `before` from `at` on leave `after`; next is the position after ys
 use Prim.Native.Nat.{ℕ, _+_}

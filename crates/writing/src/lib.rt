@@ -1,15 +1,17 @@
-// Writing the records of a plan over lent bytes. Each function takes the position to write at and gives the position after. It runs
-// on past the lent end, and what does not fit is not written. No function loops but `clear`.
+// Writing the records of a plan over lent bytes. Each function takes the position to write at and gives the position
+// after. It runs on past the lent end, and what does not fit is not written. No function loops but `clear`.
 use cells::Axis;
 use cells::Function;
 use cells::Test;
+use cells::codes;
+use cells::marks;
 ghost use mathlib.Core.Path.{_≡_};
 ghost use mathlib.Core.List.{[], _∷_, _++_};
 ghost use Prim.Native.Nat.{_+_, _^_, _<_};
 ghost use lib.ListN.{length, take};
 ghost use Rattle.cells.specs.Bytes.{bytesOf, bits8};
 ghost use Rattle.meaning.specs.Plan.{RT, RA, RP, RU, RD, RS, RJ, RN, RF, RV, RC, RE, RK, RX, RO};
-ghost use Rattle.meaning.specs.Written.{operatorBytes, functionNumber, axisNumber, testNumber, testName};
+ghost use Rattle.meaning.specs.Written.{operatorBytes};
 ghost use Rattle.laws.specs.Rows.{padded};
 ghost use Rattle.writing.specs.Penned.{Pens};
 ghost use Rattle.writing.specs.Listed.{columnsOf, keysOf};
@@ -98,7 +100,8 @@ fn put_four(plan: &mut [u8], at: usize, a: u8, b: u8, c: u8, d: u8) -> usize
 // Writes how many columns there are, then each.
 fn put_columns(plan: &mut [u8], at: usize, columns: Columns) -> usize
     requires { ⌜ at + 5 < 2 ^ 64 ⌝ }
-    ensures { λ r. ⌜ Pens at (length (columnsOf columns) ∷ columnsOf columns) (now (plan .entry)) (now (plan .exit)) r ⌝ }
+    ensures { λ r. ⌜ Pens at (length (columnsOf columns) ∷ columnsOf columns)
+        (now (plan .entry)) (now (plan .exit)) r ⌝ }
 {
     match columns {
         Columns::One(a) => put_pair(plan, at, 1, a),
@@ -121,89 +124,6 @@ fn put_keys(plan: &mut [u8], at: usize, keys: Keys) -> usize
         Keys::Two(a, b) => put_three(plan, at, 2, a, b),
     }
 }
-
-// The number of a function.
-fn function_number(f: Function) -> u8
-    ensures { λ r. ⌜ r ≡ functionNumber f ⌝ }
-{
-    match f {
-        Function::Add => 1,
-        Function::Subtract => 2,
-        Function::Multiply => 3,
-        Function::Divide => 4,
-        Function::Equal => 5,
-        Function::Less => 6,
-    }
-}
-
-// The number of an axis.
-fn axis_number(axis: Axis) -> u8
-    ensures { λ r. ⌜ r ≡ axisNumber axis ⌝ }
-{
-    match axis {
-        Axis::Child => 1,
-        Axis::Descendant => 2,
-        Axis::DescendantOrSelf => 3,
-        Axis::Itself => 4,
-        Axis::Parent => 5,
-        Axis::Ancestor => 6,
-        Axis::Following => 7,
-        Axis::Preceding => 8,
-    }
-}
-
-// The number of a test.
-fn test_number(test: Test) -> u8
-    ensures { λ r. ⌜ r ≡ testNumber test ⌝ }
-{
-    match test {
-        Test::AnyNode => 0,
-        Test::Element => 1,
-        Test::Text => 2,
-        Test::Named(_) => 3,
-    }
-}
-
-// The name that a test asks for, 0 where it asks for none.
-fn test_name(test: Test) -> usize
-    ensures { λ r. ⌜ r ≡ testName test ⌝ }
-{
-    match test {
-        Test::AnyNode => 0,
-        Test::Element => 0,
-        Test::Text => 0,
-        Test::Named(name) => name,
-    }
-}
-
-// The marks of the operators.
-const RT: usize = 0x5254;
-
-const RA: usize = 0x5241;
-
-const RP: usize = 0x5250;
-
-const RU: usize = 0x5255;
-
-const RD: usize = 0x5244;
-
-const RS: usize = 0x5253;
-
-const RJ: usize = 0x524A;
-
-const RN: usize = 0x524E;
-
-const RF: usize = 0x5246;
-
-const RC: usize = 0x5243;
-
-const RE: usize = 0x5245;
-
-const RK: usize = 0x524B;
-
-const RX: usize = 0x5258;
-
-const RO: usize = 0x524F;
 
 // Writes a mark and the number of a table: what every record but RT opens with.
 fn head(plan: &mut [u8], at: usize, mark: usize, t: usize) -> usize
@@ -237,7 +157,7 @@ pub fn one(plan: &mut [u8], at: usize) -> usize
     requires { ⌜ at + 16 < 2 ^ 64 ⌝ }
     ensures { λ r. ⌜ Pens at (operatorBytes RT) (now (plan .entry)) (now (plan .exit)) r ⌝ }
 {
-    put2(plan, at, RT)
+    put2(plan, at, marks::RT)
 }
 
 // RA: adds a column of that cell.
@@ -245,7 +165,7 @@ pub fn attach(plan: &mut [u8], at: usize, t: usize, cell: i64) -> usize
     requires { ⌜ at + 16 < 2 ^ 64 ⌝ }
     ensures { λ r. ⌜ Pens at (operatorBytes (RA t cell)) (now (plan .entry)) (now (plan .exit)) r ⌝ }
 {
-    let field = head(plan, at, RA, t);
+    let field = head(plan, at, marks::RA, t);
     put8(plan, field, cell)
 }
 
@@ -254,7 +174,7 @@ pub fn project(plan: &mut [u8], at: usize, t: usize, columns: Columns) -> usize
     requires { ⌜ at + 16 < 2 ^ 64 ⌝ }
     ensures { λ r. ⌜ Pens at (operatorBytes (RP t (columnsOf columns))) (now (plan .entry)) (now (plan .exit)) r ⌝ }
 {
-    let field = head(plan, at, RP, t);
+    let field = head(plan, at, marks::RP, t);
     put_columns(plan, field, columns)
 }
 
@@ -263,7 +183,7 @@ pub fn union(plan: &mut [u8], at: usize, t: usize, u: usize) -> usize
     requires { ⌜ at + 16 < 2 ^ 64 ⌝ }
     ensures { λ r. ⌜ Pens at (operatorBytes (RU t u)) (now (plan .entry)) (now (plan .exit)) r ⌝ }
 {
-    with_table(plan, at, RU, t, u)
+    with_table(plan, at, marks::RU, t, u)
 }
 
 // RD: rows of t equal to no row of u.
@@ -271,7 +191,7 @@ pub fn minus(plan: &mut [u8], at: usize, t: usize, u: usize) -> usize
     requires { ⌜ at + 16 < 2 ^ 64 ⌝ }
     ensures { λ r. ⌜ Pens at (operatorBytes (RD t u)) (now (plan .entry)) (now (plan .exit)) r ⌝ }
 {
-    with_table(plan, at, RD, t, u)
+    with_table(plan, at, marks::RD, t, u)
 }
 
 // RS: rows whose column c is true.
@@ -279,7 +199,7 @@ pub fn select(plan: &mut [u8], at: usize, t: usize, c: u8) -> usize
     requires { ⌜ at + 16 < 2 ^ 64 ⌝ }
     ensures { λ r. ⌜ Pens at (operatorBytes (RS t c)) (now (plan .entry)) (now (plan .exit)) r ⌝ }
 {
-    with_byte(plan, at, RS, t, c)
+    with_byte(plan, at, marks::RS, t, c)
 }
 
 // RJ: for each row of t, each row of u with equal cells in columns c and d; both rows joined.
@@ -287,7 +207,7 @@ pub fn join(plan: &mut [u8], at: usize, t: usize, c: u8, u: usize, d: u8) -> usi
     requires { ⌜ at + 16 < 2 ^ 64 ⌝ }
     ensures { λ r. ⌜ Pens at (operatorBytes (RJ t c u d)) (now (plan .entry)) (now (plan .exit)) r ⌝ }
 {
-    let field = head(plan, at, RJ, t);
+    let field = head(plan, at, marks::RJ, t);
     let table = put(plan, field, c);
     let last = put2(plan, table, u);
     put(plan, last, d)
@@ -298,7 +218,7 @@ pub fn number(plan: &mut [u8], at: usize, t: usize, p: u8, keys: Keys) -> usize
     requires { ⌜ at + 16 < 2 ^ 64 ⌝ }
     ensures { λ r. ⌜ Pens at (operatorBytes (RN t p (keysOf keys))) (now (plan .entry)) (now (plan .exit)) r ⌝ }
 {
-    let field = head(plan, at, RN, t);
+    let field = head(plan, at, marks::RN, t);
     let list = put(plan, field, p);
     put_keys(plan, list, keys)
 }
@@ -308,8 +228,8 @@ pub fn apply(plan: &mut [u8], at: usize, t: usize, f: Function, c: u8, d: u8) ->
     requires { ⌜ at + 16 < 2 ^ 64 ⌝ }
     ensures { λ r. ⌜ Pens at (operatorBytes (RF t f c d)) (now (plan .entry)) (now (plan .exit)) r ⌝ }
 {
-    let field = head(plan, at, RF, t);
-    let number = function_number(f);
+    let field = head(plan, at, marks::RF, t);
+    let number = codes::function_number(f);
     put_three(plan, field, number, c, d)
 }
 
@@ -318,7 +238,7 @@ pub fn value(plan: &mut [u8], at: usize, t: usize, c: u8) -> usize
     requires { ⌜ at + 16 < 2 ^ 64 ⌝ }
     ensures { λ r. ⌜ Pens at (operatorBytes (RV t c)) (now (plan .entry)) (now (plan .exit)) r ⌝ }
 {
-    let field = head(plan, at, RF, t);
+    let field = head(plan, at, marks::RF, t);
     put_pair(plan, field, 7, c)
 }
 
@@ -327,7 +247,7 @@ pub fn counts(plan: &mut [u8], at: usize, t: usize, c: u8) -> usize
     requires { ⌜ at + 16 < 2 ^ 64 ⌝ }
     ensures { λ r. ⌜ Pens at (operatorBytes (RC t c)) (now (plan .entry)) (now (plan .exit)) r ⌝ }
 {
-    with_byte(plan, at, RC, t, c)
+    with_byte(plan, at, marks::RC, t, c)
 }
 
 // RE: the truth of each group.
@@ -335,7 +255,7 @@ pub fn truths(plan: &mut [u8], at: usize, t: usize) -> usize
     requires { ⌜ at + 16 < 2 ^ 64 ⌝ }
     ensures { λ r. ⌜ Pens at (operatorBytes (RE t)) (now (plan .entry)) (now (plan .exit)) r ⌝ }
 {
-    head(plan, at, RE, t)
+    head(plan, at, marks::RE, t)
 }
 
 // RK: t, where no cell of column c occurs twice.
@@ -343,7 +263,7 @@ pub fn once(plan: &mut [u8], at: usize, t: usize, c: u8) -> usize
     requires { ⌜ at + 16 < 2 ^ 64 ⌝ }
     ensures { λ r. ⌜ Pens at (operatorBytes (RK t c)) (now (plan .entry)) (now (plan .exit)) r ⌝ }
 {
-    with_byte(plan, at, RK, t, c)
+    with_byte(plan, at, marks::RK, t, c)
 }
 
 // RX: a step from the nodes of each group.
@@ -351,9 +271,14 @@ pub fn step(plan: &mut [u8], at: usize, t: usize, axis: Axis, test: Test) -> usi
     requires { ⌜ at + 16 < 2 ^ 64 ⌝ }
     ensures { λ r. ⌜ Pens at (operatorBytes (RX t axis test)) (now (plan .entry)) (now (plan .exit)) r ⌝ }
 {
-    let field = head(plan, at, RX, t);
-    let name = put_pair(plan, field, axis_number(axis), test_number(test));
-    put2(plan, name, test_name(test))
+    let field = head(plan, at, marks::RX, t);
+    let name = put_pair(
+        plan,
+        field,
+        codes::axis_number(axis),
+        codes::test_number(test),
+    );
+    put2(plan, name, codes::test_name(test))
 }
 
 // RO: adds the root of fragment k.
@@ -361,7 +286,7 @@ pub fn root(plan: &mut [u8], at: usize, t: usize, k: u8) -> usize
     requires { ⌜ at + 16 < 2 ^ 64 ⌝ }
     ensures { λ r. ⌜ Pens at (operatorBytes (RO t k)) (now (plan .entry)) (now (plan .exit)) r ⌝ }
 {
-    with_byte(plan, at, RO, t, k)
+    with_byte(plan, at, marks::RO, t, k)
 }
 
 // Zeroes every byte from `from` on.

@@ -1,5 +1,5 @@
--- `operators` meets its contract. The loop's invariant: what is left of the plan, after the operators done, gives what the
--- whole gives, and the first n lent bytes are the widths of their tables. The measure is what is left of the bytes.
+-- `operators` meets its contract. The loop's invariant: what is left of the plan, after the operators done, gives what
+-- the whole gives, and the first n lent bytes are the widths of their tables. The measure is what is left of the bytes.
 use Prim.Native.Nat.{_-_}
 use mathlib.Core.Path.{sym, _∙_}
 use native.Mathlib.Omega.{arith}
@@ -7,7 +7,7 @@ use borrow.Author.Needs.{needs}
 use lib.ListN.{length}
 use Rattle.plans.specs.Walk.{Checking}
 use Rattle.cells.specs.Bytes.{Bytes}
-use Rattle.plans.proofs.Fields.{operator-ends}
+use Rattle.plan_records.proofs.Fields.{operator-ends}
 use Rattle.plans.proofs.Ending.{checking-start, checking-excess, checking-unread, checking-unfit, checking-small}
 use Rattle.plans.proofs.Ending.{checking-room, checking-place}
 use Rattle.plans.proofs.Ending.{checking-on, checking-none, checking-three, checking-other, unread, found}
@@ -20,6 +20,18 @@ Inv-loop plan widths₀ at₀ n₀ last₀ widths at n last = Checking plan widt
 
 abbrev μ-loop : tie.MeasureT-loop
 μ-loop plan widths₀ at₀ n₀ last₀ widths at n last = length plan - at
+
+-- the head of the loop, from where an operator is read
+abbrev loop-of : tie.After-read Inv-loop μ-loop → tie.At-loop Inv-loop μ-loop
+loop-of c = c .before .before .before
+
+-- where the operator is read, from where it is known
+abbrev operator-read : tie.After-known-told Inv-loop μ-loop → tie.After-read Inv-loop μ-loop
+operator-read c = c .before .before .before
+
+-- where the operator is known, from where its width is worked out
+abbrev operator-known : tie.After-width-of Inv-loop μ-loop → tie.After-known-told Inv-loop μ-loop
+operator-known c = c .before .before
 
 loop-holds : tie.Need-loop-holds Inv-loop μ-loop
 loop-holds c =
@@ -55,12 +67,13 @@ returns-2 c =
     let l = c .before .before .before .before .before in
     let a = l .before .before .before .args in
     let r = c .before .before .read in
-    checking-unread (l .loop .inv) (c .before .before .before .before .loop-test .taken) (c .before .before .before .if1 .left)
+    checking-unread (l .loop .inv) (c .before .before .before .before .loop-test .taken)
+    (c .before .before .before .if1 .left)
     (unread (a .plan .now) (l .loop .at) (r .result) (r .ensures) (c .enum-told .given .1))
 
 width-of-requires : tie.Need-width-of-requires Inv-loop μ-loop
 width-of-requires c κs =
-    let l = c .before .before .before .before .before .before .before in
+    let l = loop-of (operator-read (c .before)) in
     let a = l .before .before .before .args in
     let r = c .before .before .before .before .read in
     let f = c .before .before .found .given in (
@@ -76,28 +89,28 @@ enum-told-2 c = search needs
 
 same-length-3 : tie.Need-same-length-3 Inv-loop μ-loop
 same-length-3 c =
-    let l = c .before .before .before .before .before .before .before .before .before .before in
+    let l = loop-of (operator-read (operator-known (c .before .before))) in
     l .loop .inv .long ∙ sym (l .before .before .before .pre)
 
 returns-3 : tie.Need-returns-3 Inv-loop μ-loop
 returns-3 c =
-    let l = c .before .before .before .before .before .before .before .before .before .before in
+    let l = loop-of (operator-read (operator-known (c .before .before))) in
     let a = l .before .before .before .args in
-    let r = c .before .before .before .before .before .before .before .read in
+    let r = operator-read (operator-known (c .before .before)) .read in
     let f = c .before .before .before .before .before .found .given in
     let x = c .before .before .width-of in
     let p = found (a .plan .now) (l .loop .at) (r .result) (r .ensures) (f .0 .0) (f .1) in
     checking-unfit (l .loop .inv)
-    (c .before .before .before .before .before .before .before .before .before .loop-test .taken)
-    (c .before .before .before .before .before .before .before .before .if1 .left)
+    (operator-read (operator-known (c .before .before)) .before .before .loop-test .taken)
+    (operator-read (operator-known (c .before .before)) .before .if1 .left)
     _ _ p (x .result) (x .ensures) (c .enum-told2 .given .1)
 
 cast-widths : tie.Need-cast-widths Inv-loop μ-loop
 cast-widths c =
-    let l = c .before .before .before .before .before .before .before .before .before .before .before in
+    let l = loop-of (operator-read (operator-known (c .before .before .before))) in
     let a = l .before .before .before .args in
-    let r = c .before .before .before .before .before .before .before .before .read in
-    let f = c .before .before .before .before .before .before .found .given in
+    let r = operator-read (operator-known (c .before .before .before)) .read in
+    let f = operator-known (c .before .before .before) .before .found .given in
     let x = c .before .before .before .width-of in
     let w = c .before .w .given in
     let bytes : Bytes (a .plan .now) = λ i. omega (arith, l .before .before .shared-slice-known .given i) in
@@ -105,30 +118,30 @@ cast-widths c =
     omega (
       arith,
       checking-small (l .loop .inv)
-          (c .before .before .before .before .before .before .before .before .before .before .loop-test .taken)
-          (c .before .before .before .before .before .before .before .before .before .if1 .left)
+          (operator-read (operator-known (c .before .before .before)) .before .before .loop-test .taken)
+          (operator-read (operator-known (c .before .before .before)) .before .if1 .left)
           _ _ p (x .result) (x .ensures) bytes (w .0 .0) (w .1),
     )
 
 slice-write-widths : tie.Need-slice-write-widths Inv-loop μ-loop
 slice-write-widths c =
-    let l = c .before .before .before .before .before .before .before .before .before .before .before in
+    let l = loop-of (operator-read (operator-known (c .before .before .before))) in
     checking-place (l .loop .inv)
-    (c .before .before .before .before .before .before .before .before .before .if1 .left)
+    (operator-read (operator-known (c .before .before .before)) .before .if1 .left)
 
 add-n : tie.Need-add-n Inv-loop μ-loop
 add-n c =
-    let l = c .before .before .before .before .before .before .before .before .before .before .before in
-    let e = c .before .before .before .before .before .before .before .before .before in
-    let p = checking-place (l .loop .inv) (e .if1 .left) in
+    let r = operator-read (operator-known (c .before .before .before)) in
+    let l = loop-of r in
+    let p = checking-place (l .loop .inv) (r .before .if1 .left) in
     omega (arith, l .loop .inv .long)
 
 loop-less : tie.Need-loop-less Inv-loop μ-loop
 loop-less c =
-    let l = c .before .before .before .before .before .before .before .before .before .before .before in
+    let l = loop-of (operator-read (operator-known (c .before .before .before))) in
     let a = l .before .before .before .args in
-    let r = c .before .before .before .before .before .before .before .before .read in
-    let f = c .before .before .before .before .before .before .found .given in
+    let r = operator-read (operator-known (c .before .before .before)) .read in
+    let f = operator-known (c .before .before .before) .before .found .given in
     let bytes : Bytes (a .plan .now) = λ i. omega (arith, l .before .before .shared-slice-known .given i) in
     let p = found (a .plan .now) (l .loop .at) (r .result) (r .ensures) (f .0 .0) (f .1) in
     let e = operator-ends (a .plan .now) bytes (l .loop .at) _ p in
@@ -136,17 +149,17 @@ loop-less c =
 
 loop-again : tie.Need-loop-again Inv-loop μ-loop
 loop-again c =
-    let l = c .before .before .before .before .before .before .before .before .before .before .before in
+    let l = loop-of (operator-read (operator-known (c .before .before .before))) in
     let a = l .before .before .before .args in
-    let r = c .before .before .before .before .before .before .before .before .read in
-    let f = c .before .before .before .before .before .before .found .given in
+    let r = operator-read (operator-known (c .before .before .before)) .read in
+    let f = operator-known (c .before .before .before) .before .found .given in
     let x = c .before .before .before .width-of in
     let w = c .before .w .given in
     let bytes : Bytes (a .plan .now) = λ i. omega (arith, l .before .before .shared-slice-known .given i) in
     let p = found (a .plan .now) (l .loop .at) (r .result) (r .ensures) (f .0 .0) (f .1) in
     checking-on (l .loop .inv)
-    (c .before .before .before .before .before .before .before .before .before .before .loop-test .taken)
-    (c .before .before .before .before .before .before .before .before .before .if1 .left)
+    (operator-read (operator-known (c .before .before .before)) .before .before .loop-test .taken)
+    (operator-read (operator-known (c .before .before .before)) .before .if1 .left)
     _ _ p (x .result) (x .ensures) bytes (w .0 .0) (w .1)
 
 same-length-4 : tie.Need-same-length-4 Inv-loop μ-loop

@@ -5,9 +5,9 @@ use borrow.Author.Needs.{needs}
 use Prim.Native.Nat.{ℕ, _+_, _*_, _-_, _<_}
 use borrow.Fn.Kinds.{In}
 use borrow.Fn.PlainCycle.{Measures, is, falls, and}
-use Rattle.queries.specs.declared.Operands.{Operands}
-use Rattle.queries.specs.declared.Operands.the-variants.{None, Variable, One, Two, Binding, Three}
-use Rattle.queries.specs.Decoded.{walked}
+use Rattle.query_records.specs.declared.Operands.{Operands}
+use Rattle.query_records.specs.declared.Operands.the-variants.{None, Variable, One, Two, Binding, Three}
+use Rattle.queries.specs.Answers.{walked}
 use Rattle.queries.specs.Walk.{walk, steps, two, three}
 use Rattle.queries.proofs.Walking.{walk-unsound, walk-deep, walk-many, walk-sound, walk-stopped, walk-passed}
 use Rattle.queries.proofs.operand.Reads as operand
@@ -19,10 +19,10 @@ use Rattle.queries.proofs.+operand+three_operands+two_operands.Lts-thre
 use Rattle.queries.proofs.two_operands.Reads as two-operands
 use Rattle.queries.proofs.two_operands.Kinds as two-operands-kinds
 use Rattle.queries.proofs.+operand+three_operands+two_operands.Lts-two_operands as two-operands-lts
-use Rattle.queries.proofs.following.Reads as following-reads
+use Rattle.query_records.proofs.following.Reads as following-reads
 use Rattle.queries.proofs.lookup.Reads as lookup-reads
-use Rattle.queries.proofs.read.Reads as read-reads
-use Rattle.queries.proofs.with.Reads as with-reads
+use Rattle.query_records.proofs.read.Reads as read-reads
+use Rattle.query_records.proofs.flags.with.Reads as with-reads
 use Rattle.queries.proofs.+operand+three_operands+two_operands.{statement}
 use Rattle.queries.proofs.+operand+three_operands+two_operands.Tie.{close}
 
@@ -132,8 +132,9 @@ operand-returns t c =
 operand-returns-2 : (t : ℕ) → operand-lts.Need-returns-2 (operand-callees t) (operand-at t) operand.Post
 unfolding walked
 operand-returns-2 t c =
-    let a = c .before .before .before .before .before .before .args in
-    let r = c .before .before .before .before .read in
+    let reading = c .before .before .before .before in
+    let a = reading .before .before .args in
+    let r = reading .read in
     let f = c .before .before .found .given in
     walk-deep (a .query .now) (a .at) (r .result) (r .ensures .means) (a .depth) (a .flags) (a .n) (f .0 .0) (f .1)
     (c .if1 .taken)
@@ -141,8 +142,9 @@ operand-returns-2 t c =
 operand-returns-3 : (t : ℕ) → operand-lts.Need-returns-3 (operand-callees t) (operand-at t) operand.Post
 unfolding walked
 operand-returns-3 t c =
-    let a = c .before .before .before .before .before .before .before .args in
-    let r = c .before .before .before .before .before .read in
+    let reading = c .before .before .before .before .before in
+    let a = reading .before .before .args in
+    let r = reading .read in
     let f = c .before .before .before .found .given in
     walk-many (a .query .now) (a .at) (r .result) (r .ensures .means) (a .depth) (a .flags) (a .n) (f .0 .0) (f .1)
     (c .if2 .taken)
@@ -205,8 +207,9 @@ following-steps :
     (start t c .args .at)
 following-steps t c p e =
     let a = start t c .args in
-    let r = c .before .before .before .before .before .before .read in
-    let f = c .before .before .before .before .found .given in
+    let found = c .before .before .before .before in
+    let r = found .before .before .read in
+    let f = found .found .given in
     walk-sound (a .query .now) (a .at) (r .result) (r .ensures .means) (a .depth) (a .flags) (a .n) (f .0 .0) (f .1)
     (c .following .result) p (c .before .before .if1 .left) (omega arith) (c .following .ensures) e
 

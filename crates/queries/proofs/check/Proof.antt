@@ -23,16 +23,18 @@ returns c =
 
 returns-2 : tie.Need-returns-2
 returns-2 c =
-    let w = c .before .before .before .before .operand in
+    let walked = c .before .before .before .before in
+    let w = walked .operand in
     let x = c .before .before .whole .given in
-    call-whole (c .before .before .before .before .before .before .args .query .now) (w .result) (w .ensures)
+    call-whole (walked .before .before .args .query .now) (w .result) (w .ensures)
     (x .0 .0) (x .0 .1 .0) (x .1) (c .if1 .taken)
 
 returns-3 : tie.Need-returns-3
 returns-3 c =
-    let w = c .before .before .before .before .operand in
+    let walked = c .before .before .before .before in
+    let w = walked .operand in
     let x = c .before .before .whole .given in
-    call-extra (c .before .before .before .before .before .before .args .query .now) (w .result) (w .ensures)
+    call-extra (walked .before .before .args .query .now) (w .result) (w .ensures)
     (x .0 .0) (x .0 .1 .0) (x .1) (c .if1 .left)
 
 pub check-spec : {M : Type 1} → statement M

@@ -1,6 +1,6 @@
 -- `concluded` meets its contract, case by case.
 use borrow.Author.Needs.{needs}
-use Rattle.queries.specs.Decoded.{walked, answered}
+use Rattle.queries.specs.Answers.{walked, answered}
 use Rattle.queries.specs.Walk.{answerOf}
 use Rattle.queries.proofs.concluded.Statement.{statement}
 use Rattle.queries.proofs.concluded.Tie as tie

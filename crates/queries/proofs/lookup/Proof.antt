@@ -2,7 +2,7 @@
 use mathlib.Core.Path.{sym, _∙_}
 use borrow.Author.Needs.{needs}
 use Rattle.laws.specs.Attempt.{unless}
-use Rattle.queries.specs.Decoded.{walked}
+use Rattle.queries.specs.Answers.{walked}
 use Rattle.queries.proofs.lookup.Statement.{statement}
 use Rattle.queries.proofs.lookup.Tie as tie
 

@@ -1,6 +1,6 @@
 -- `handed_up` meets its contract: each refusal keeps its number and its place.
 use borrow.Author.Needs.{needs}
-use Rattle.queries.specs.Decoded as Queries
+use Rattle.queries.specs.Answers as Queries
 use Rattle.translator.specs.Answers.{answered}
 use Rattle.translator.proofs.Concluding.{hands-none, hands-is}
 use Rattle.translator.proofs.handed_up.Statement.{statement}

@@ -4,7 +4,7 @@ use mathlib.Core.Path.{_≡_, refl, sym, _∙_}
 use native.Mathlib.Omega.{arith}
 use lib.ListN.{length}
 use Rattle.meaning.specs.Plan.{columns, columnsAt}
-use Rattle.plans.proofs.Columns.{columns-none, columns-past, columns-go}
+use Rattle.plan_records.proofs.Columns.{columns-none, columns-past, columns-go}
 use Rattle.plans.proofs.widths.below.Statement.{statement}
 use Rattle.plans.proofs.widths.below.Tie as tie
 

@@ -5,6 +5,18 @@ use Rattle.plans.proofs.Ordered.{width-none, no-first, no-second, unsui
 use Rattle.plans.proofs.widths.width_of.Statement.{statement}
 use Rattle.plans.proofs.widths.width_of.Tie as tie
 
+-- the function's entry, from where the tables are told
+abbrev start-of : tie.After-tables → tie.Start
+start-of c = c .before .before .before
+
+-- where the tables are told, from where their numbers are known
+abbrev tables-told : tie.After-known-told → tie.After-tables
+tables-told c = c .before .before .before
+
+-- where the numbers are known, from where both are below n
+abbrev numbers-known : tie.Else2 → tie.After-known-told
+numbers-known c = c .before .before
+
 tables-requires : tie.Need-tables-requires
 tables-requires c κs = search needs
 
@@ -24,7 +36,7 @@ returns c =
 
 returns-2 : tie.Need-returns-2
 returns-2 c =
-    let s = c .before .before .before .before .before .before .before in
+    let s = start-of (tables-told (c .before)) in
     let a = s .args in
     let x = c .before .before .before .before .tables in
     let g = c .before .before .t .given in
@@ -33,7 +45,7 @@ returns-2 c =
 
 returns-3 : tie.Need-returns-3
 returns-3 c =
-    let s = c .before .before .before .before .before .before .before .before in
+    let s = start-of (tables-told (c .before .before)) in
     let a = s .args in
     let x = c .before .before .before .before .before .tables in
     let g = c .before .before .before .t .given in
@@ -55,10 +67,10 @@ made-width-requires c κs = search needs
 
 returns-4 : tie.Need-returns-4
 returns-4 c =
-    let s = c .before .before .before .before .before .before .before .before .before .before .before .before .before in
+    let s = start-of (tables-told (numbers-known (c .before .before .before .before .before))) in
     let a = s .args in
-    let x = c .before .before .before .before .before .before .before .before .before .before .tables in
-    let g = c .before .before .before .before .before .before .before .before .t .given in
+    let x = tables-told (numbers-known (c .before .before .before .before .before)) .tables in
+    let g = numbers-known (c .before .before .before .before .before) .before .t .given in
     let w = c .before .before .before .before .byte in
     let v = c .before .before .before .byte2 in
     let f = c .before .before .suits in
@@ -71,10 +83,10 @@ returns-4 c =
 
 returns-5 : tie.Need-returns-5
 returns-5 c =
-    let s = c .before .before .before .before .before .before .before .before .before .before .before .before in
+    let s = start-of (tables-told (numbers-known (c .before .before .before .before))) in
     let a = s .args in
-    let x = c .before .before .before .before .before .before .before .before .before .tables in
-    let g = c .before .before .before .before .before .before .before .t .given in
+    let x = tables-told (numbers-known (c .before .before .before .before)) .tables in
+    let g = numbers-known (c .before .before .before .before) .before .t .given in
     let w = c .before .before .before .byte in
     let v = c .before .before .byte2 in
     let f = c .before .suits in

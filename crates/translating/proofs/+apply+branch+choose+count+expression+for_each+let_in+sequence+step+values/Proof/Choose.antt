@@ -1,7 +1,7 @@
 -- `choose` meets its contract: the condition, its two loops, each branch, then the union.
 use Prim.Native.Nat.{ℕ}
 use native.Mathlib.Omega.{arith}
-use Rattle.queries.specs.Parse.{parse}
+use Rattle.query_walks.specs.Parse.{parse}
 use Rattle.translating.proofs.Rooms.{room-less, condition-asked, condition-room, then-asked, else-asked}
 use Rattle.translating.proofs.Rooms.{choice-room}
 use Rattle.translating.proofs.Composing.{choice-made}

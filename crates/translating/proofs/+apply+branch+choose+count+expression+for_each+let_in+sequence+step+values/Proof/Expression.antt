@@ -6,11 +6,11 @@ use native.Mathlib.Omega.{arith}
 use lib.Dec.{lit≤}
 use Rattle.meaning.specs.Query.{QL, QE, QR, QV}
 use Rattle.meaning.specs.Translation.{tr}
-use Rattle.queries.specs.declared.Record.{Record}
-use Rattle.queries.specs.Decoded as Code
-use Rattle.queries.specs.Decoded.{SmallLiteral}
-use Rattle.queries.specs.Parse.{trees, parse}
-use Rattle.queries.specs.Statements.{Ranged}
+use Rattle.query_records.specs.declared.Record.{Record}
+use Rattle.query_records.specs.Decoded as Code
+use Rattle.query_records.specs.Decoded.{SmallLiteral}
+use Rattle.query_walks.specs.Parse.{trees, parse}
+use Rattle.query_records.specs.Fields.{Ranged}
 use Rattle.translating.proofs.Rooms.{room-less}
 use Rattle.translating.proofs.Splitting.{leaf-room, leaf-makes, one-asked, one-makes, two-asked, two-makes}
 use Rattle.translating.proofs.Splitting.{three-asked, three-makes}
@@ -32,7 +32,7 @@ use cycle.Lts-expression as expression-lts
 use Rattle.cells.proofs.cell_of.Reads as cell-of-reads
 use Rattle.rules.proofs.empty.Reads as empty-reads
 use Rattle.rules.proofs.literal.Reads as literal-reads
-use Rattle.queries.proofs.read.Reads as read-reads
+use Rattle.query_records.proofs.read.Reads as read-reads
 use Rattle.rules.proofs.root.Reads as root-reads
 use Rattle.translating.proofs.variable.Reads as variable-reads
 use cycle.Proof.Measures.{expression-at, apply-below, choose-below, count-below, for-each-below, let-in-below}

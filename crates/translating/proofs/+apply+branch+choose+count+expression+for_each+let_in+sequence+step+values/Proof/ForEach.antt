@@ -5,7 +5,7 @@ use mathlib.Core.Path.{refl}
 use native.Mathlib.Omega.{arith}
 use lib.Dec.{lit≤}
 use Rattle.meaning.specs.Query.{QF}
-use Rattle.queries.specs.Parse.{parse}
+use Rattle.query_walks.specs.Parse.{parse}
 use Rattle.translating.proofs.Rooms.{room-less, first-asked, first-room, head-room, body-asked, body-room}
 use Rattle.translating.proofs.Composing.{for-made, set-eight}
 use borrow.Author.Needs.{needs}
@@ -16,7 +16,7 @@ use parts.+apply+branch+choose+count+expression+for_each+let_in+sequence+step+va
 use cycle.Lts-for_each as for-each-lts
 use Rattle.rules.proofs.for_head.Reads as for-head-reads
 use Rattle.rules.proofs.for_tail.Reads as for-tail-reads
-use Rattle.queries.proofs.free.Reads as free-reads
+use Rattle.query_walks.proofs.free.Reads as free-reads
 use Rattle.rules.proofs.hold.Reads as hold-reads
 use Rattle.rules.proofs.lift.Reads as lift-reads
 use Rattle.rules.proofs.without.Reads as without-reads

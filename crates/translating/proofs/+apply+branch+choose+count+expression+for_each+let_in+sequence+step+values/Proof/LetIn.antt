@@ -3,7 +3,7 @@ use Prim.Native.Nat.{ℕ}
 use mathlib.Core.Path.{refl}
 use native.Mathlib.Omega.{arith}
 use Rattle.meaning.specs.Query.{QT}
-use Rattle.queries.specs.Parse.{parse}
+use Rattle.query_walks.specs.Parse.{parse}
 use Rattle.translating.proofs.Rooms.{first-asked, second-asked}
 use Rattle.translating.proofs.Composing.{let-made}
 use borrow.Author.Needs.{needs}

@@ -11,7 +11,7 @@ use Rattle.working.proofs.each_item.Reads as each-item
 use Rattle.working.proofs.work_out.Reads as work-out
 use Rattle.working.proofs.turns.Reads as turns
 use Rattle.working.proofs.+branch+choice+each_item+turns+two+work_out.Lts-each_item as each-item-lts
-use Rattle.queries.proofs.skip.Reads as skip-reads
+use Rattle.query_walks.proofs.skip.Reads as skip-reads
 use Rattle.stack.proofs.keep.Reads as keep-reads
 use Rattle.working.proofs.+branch+choice+each_item+turns+two+work_out.Proof.Measures.{each-item-at}
 use Rattle.working.proofs.+branch+choice+each_item+turns+two+work_out.Proof.Measures.{work-out-below}

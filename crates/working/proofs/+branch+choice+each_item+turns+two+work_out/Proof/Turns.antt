@@ -5,7 +5,7 @@ use native.Mathlib.Omega.{arith}
 use Rattle.stack.specs.Stack.{Fit}
 use Rattle.meaning.specs.Catalogue.{catalogueOf}
 use Rattle.meaning.specs.World.{worldOf}
-use Rattle.queries.specs.Parse.{parse}
+use Rattle.query_walks.specs.Parse.{parse}
 use Rattle.working.specs.Scopes.{Scoped}
 use Rattle.working.proofs.Pairing.{adds-stopped}
 use Rattle.working.proofs.Turning.{Turning, turning-start, turning-scoped, turning-on, turning-stopped}

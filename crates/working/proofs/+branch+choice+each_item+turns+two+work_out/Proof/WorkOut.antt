@@ -8,11 +8,12 @@ use mir.Facts.{toZ-ofZ}
 use lib.ListN.{length}
 use Rattle.meaning.specs.Query.{QL, QE, QR, QV, QS, QT, QO, QC, QD, QX}
 use Rattle.meaning.specs.Counted.{adding, evaluate}
-use Rattle.queries.specs.declared.Record.{Record}
-use Rattle.queries.specs.Decoded.{recordOf, SmallLiteral}
-use Rattle.queries.specs.Parse.{trees, parse}
-use Rattle.queries.specs.Statements.{Ranged}
-use Rattle.queries.proofs.Callers.{unfound-parses, found-sound, found-small, found-parses, shallow-parses}
+use Rattle.query_records.specs.declared.Record.{Record}
+use Rattle.query_records.specs.Decoded.{recordOf, SmallLiteral}
+use Rattle.query_walks.specs.Parse.{trees, parse}
+use Rattle.query_records.specs.Fields.{Ranged}
+use Rattle.query_walks.proofs.Callers.{unfound-parses, found-parses, shallow-parses}
+use Rattle.query_records.proofs.Callers.{found-sound, found-small}
 use Rattle.stack.specs.Arms.{rooted, joined, kept, applied, counted, valued, stepped}
 use Rattle.stack.proofs.Leaving.{leaves-as, adding-as, fit-sums}
 use Rattle.working.proofs.Working.{fit-wider, fit-pair-wider, leaves-none, leaves-joined}
@@ -24,7 +25,7 @@ use Rattle.working.proofs.two.Reads as two
 use Rattle.working.proofs.each_item.Reads as each-item
 use Rattle.working.proofs.choice.Reads as choice
 use Rattle.working.proofs.+branch+choice+each_item+turns+two+work_out.Lts-work_out as work-out-lts
-use Rattle.queries.proofs.read.Reads as read-reads
+use Rattle.query_records.proofs.read.Reads as read-reads
 use Rattle.cells.proofs.cell_of.Reads as cell-of-reads
 use Rattle.stack.proofs.put.Reads as put-reads
 use Rattle.stack.proofs.root.Reads as root-reads

@@ -1,0 +1,4 @@
+pub mod Sized
+pub mod Arms
+pub mod Columns
+pub mod Fields

@@ -1,0 +1,73 @@
+-- `union` meets its contract: cut, or its fields as they stand.
+use Prim.Native.Nat.{_+_, _≤_}
+use native.Mathlib.Omega.{arith}
+use borrow.Author.Needs.{needs}
+use lib.ListN.{length}
+use Rattle.plan_records.specs.declared.Operator.the-variants as Operator
+use Rattle.plan_records.specs.Arms as Arms
+use Rattle.plan_records.specs.Decoded.{operatorOf, Stands}
+use Rattle.plan_records.proofs.Sized.{there, cut-reads, sound-reads}
+use Rattle.plan_records.proofs.records.union.Statement.{statement}
+use Rattle.plan_records.proofs.records.union.Tie as tie
+
+fits-requires : tie.Need-fits-requires
+fits-requires c κs = search needs
+
+returns : tie.Need-returns
+unfolding Arms.union
+returns c =
+    let a = c .before .before .before .args in
+    let f = c .before .fits2 in
+    cut-reads (a .plan .now) (a .at) 6 (f .result) (f .ensures) _ (c .if1 .taken)
+
+room :
+    (c : tie.Else1) →
+    c .before .before .before .args .at + 6 ≤ length (c .before .before .before .args .plan .now)
+room c =
+    let a = c .before .before .before .args in
+    let f = c .before .fits2 in
+    there (a .plan .now) (a .at) 6 (f .result) (f .ensures) (c .if1 .left)
+
+add-next : tie.Need-add-next
+add-next c = omega (arith, room c)
+
+add-word2 : tie.Need-add-word2
+add-word2 c = omega (arith, room c)
+
+word2-requires : tie.Need-word2-requires
+word2-requires c κs = omega (arith, room c)
+
+add-word2-2 : tie.Need-add-word2-2
+add-word2-2 c = omega (arith, room (c .before))
+
+word2-requires-2 : tie.Need-word2-requires-2
+word2-requires-2 c κs = omega (arith, room (c .before))
+
+sound-requires : tie.Need-sound-requires
+sound-requires c κs = search needs
+
+returns-2 : tie.Need-returns-2
+unfolding Arms.union operatorOf Stands
+returns-2 c =
+    let e = c .before .before .before in
+    let a = e .before .before .before .args in
+    let f = e .before .fits2 in
+    let w = c .before .before .word2 in
+    let x = c .before .word22 in
+    sound-reads (a .plan .now) (a .at) 6 (f .result) (f .ensures) _ (c .sound .result)
+    (Operator.Union (w .result) (x .result))
+    (e .if1 .left) (c .sound .ensures) tt (rw (← w .ensures .0, ← x .ensures .0))
+
+pub union-spec : {M : Type 1} → statement M
+union-spec =
+    tie.close
+    (tie.spec
+    fits-requires
+    returns
+    add-next
+    add-word2
+    word2-requires
+    add-word2-2
+    word2-requires-2
+    sound-requires
+    returns-2)

@@ -1,0 +1,4 @@
+pub mod Outcomes
+pub mod Arms
+pub mod Fields
+pub mod Callers

@@ -1,0 +1,3 @@
+pub mod Decoded
+pub mod Arms
+pub mod Fields

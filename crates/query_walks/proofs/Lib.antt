@@ -1,0 +1,4 @@
+pub mod Accepting
+pub mod Parsing
+pub mod Callers
+pub mod Skipping
