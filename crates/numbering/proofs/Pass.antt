@@ -1,5 +1,5 @@
 -- The pass that lays the rows in the order of their numbers, each with its counter.
---     Turning ..          what holds before row i of the order is laid: from `to` on there is room for the rows that are
+--     Turning ..         what holds before row i of the order is laid: from `to` on there is room for the rows that are
 --                        left, the table stands as it did, and what is left gives what the whole gives
 --     begins, goes-on    at the start, and after one row
 --     ends               at the end all rows are laid
