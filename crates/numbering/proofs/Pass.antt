@@ -1,5 +1,5 @@
 -- The pass that lays the rows in the order of their numbers, each with its counter.
---     Turning ..          what holds before row i of the order is laid: from `to` on there is room for the rows that are
+--     Turning ..         what holds before row i of the order is laid: from `to` on there is room for the rows that are
 --                        left, the table stands as it did, and what is left gives what the whole gives
 --     begins, goes-on    at the start, and after one row
 --     ends               at the end all rows are laid
@@ -20,7 +20,7 @@ use Rattle.laws.proofs.Booleans.{by-cases}
 use Rattle.laws.proofs.Rows.{laid-nothing, laid-more, length-laid, take-laid, length-row, length-snoc}
 use Rattle.meaning.specs.Operators.{Row, Table, cell, inGroup}
 use Rattle.tables.specs.declared.Stand.{Stand}
-use Rattle.numbering.specs.Order.{from}
+use Rattle.sorting.specs.Order.{from}
 use Rattle.numbering.specs.Numbered.{rowOf, counterOf, countedFrom, numberedRows, Layable}
 use Rattle.laws.proofs.Places.{rest-cons}
 use Rattle.numbering.proofs.Sorted.{cell-row, row-end}

@@ -1,22 +1,15 @@
 // The operator RN: rows in rising order by p and the keys, ties as they stood, numbered from 1 within equal p.
 mod laying;
-mod order;
-mod sorting;
 
 ghost use Prim.Native.Nat.{_+_, _≤_};
 ghost use lib.ListN.{length};
 ghost use Rattle.laws.specs.Attempt.{gives};
 ghost use Rattle.meaning.specs.Operators;
 ghost use Rattle.tables.specs.Layout.{tableAt, Inside, Owes};
-ghost use Rattle.numbering.specs.Order.{columnsOf, KeyColumns};
+ghost use Rattle.sorting.specs.Order.{columnsOf, KeyColumns};
+use sorting::Keys;
 use tables::Laid;
 use tables::Stand;
-
-// The keys of RN: one column or two.
-pub enum Keys {
-    One(usize),
-    Two(usize, usize),
-}
 
 // RN of the table, laid at `at`. It never fails. Room is tested before anything is sorted: at most 32,768 rows are.
 // `order` and `aside` are lent to work in: what they hold does not matter.

@@ -13,14 +13,14 @@ ghost use Rattle.meaning.specs.World.{worldOf};
 ghost use Rattle.tables.specs.Layout.{tableAt, Owes};
 ghost use Rattle.rowwise.specs.Tasks;
 ghost use Rattle.axes.specs.Steps.{Ready};
-ghost use Rattle.numbering.specs.Order.{columnsOf};
+ghost use Rattle.sorting.specs.Order.{columnsOf};
 ghost use Rattle.directory.specs.Directory.{standAt};
 ghost use Rattle.directory.specs.Sound.{Stands, wide};
 use cells::Axis;
 use cells::Test;
 use directory::stand;
-use numbering::Keys;
 use rowwise::Task;
+use sorting::Keys;
 use tables::Laid;
 
 // The row-wise operators, RA RP RS RF: a task for each row of table t.

@@ -1,5 +1,5 @@
 -- What the row-wise operators do with one row (document 01, 'Plan operators').
---     made plan c xs task r   the rows that a task makes of row r; xs are the cells, `plan` has the bytes of its columns
+--     made plan c xs task r   the rows that a task makes of row r; xs are the cells, `plan` holds its columns
 --     wider w task            the width of those rows, for a row of width w
 --     Suits plan top w task   the task's columns are columns, and its second table stands below `top`
 --     Worked w task           the columns that a cell is worked out from are columns

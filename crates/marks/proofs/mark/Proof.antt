@@ -24,23 +24,27 @@ Inv-loop cells rows marks₀ i₀ marks i =
 abbrev μ-loop : tie.MeasureT-loop
 μ-loop cells rows marks₀ i₀ marks i = length cells - i
 
+-- places on the way
+abbrev start-of : tie.At-loop Inv-loop μ-loop → tie.Start Inv-loop μ-loop
+start-of c = c .before .before .before .before .before .before
+
 -- the flags are as many as they were
 long :
     (c : tie.At-loop Inv-loop μ-loop)
-    → length (c .loop .marks) ≡ length (c .before .before .before .before .before .before .args .marks .now)
+    → length (c .loop .marks) ≡ length (start-of c .args .marks .now)
 long c = c .loop .inv .1 ∙ c .before .before .before .clear .kept .1 .0
 
 wide :
     (c : tie.At-loop Inv-loop μ-loop)
-    → c .before .before .before .before .before .before .args .rows ≤ length (c .loop .marks)
-wide c = omega (arith, long c, c .before .before .before .before .before .before .pre)
+    → start-of c .args .rows ≤ length (c .loop .marks)
+wide c = omega (arith, long c, start-of c .pre)
 
 -- the cell at i
 one :
     (c : tie.After-mark-one Inv-loop μ-loop) (d : Catalogue)
-    → d .rows ≡ c .before .before .before .before .before .before .before .before .before .before .args .rows
+    → d .rows ≡ start-of (c .before .before .before .before) .args .rows
     → FromOne d
-    (getD (c .before .before .before .before .before .before .before .before .before .before .args .cells .now)
+    (getD (start-of (c .before .before .before .before) .args .cells .now)
     (c .before .before .before .before .loop .i) (pos 0))
     (c .mark-one .result) (c .before .before .before .before .loop .marks) (c .mark-one .last .1 .1 .0)
 one c d e =
@@ -104,7 +108,7 @@ same-length-2 c = long (c .before)
 
 returns-2 : tie.Need-returns-2 Inv-loop μ-loop
 returns-2 c =
-    let cells = c .before .before .before .before .before .before .before .args .cells .now in
+    let cells = start-of (c .before) .args .cells .now in
     let end : c .before .loop .i ≡ length cells = omega arith in
     λ d e. rw (end, take-length _) at (c .before .loop .inv .2 d e)
 

@@ -25,6 +25,10 @@ Inv-loop marks rows work₀ at cell n₀ v₀ work n v =
 abbrev μ-loop : tie.MeasureT-loop
 μ-loop marks rows work₀ at cell n₀ v₀ work n v = rows - v
 
+-- places on the way
+abbrev start-of : tie.Then1 Inv-loop μ-loop → tie.Start Inv-loop μ-loop
+start-of c = c .before .before .before .before .before .before
+
 loop-holds : tie.Need-loop-holds Inv-loop μ-loop
 loop-holds c = (zero-le, refl, rows-begin _ _ _ _)
 
@@ -34,8 +38,8 @@ shared-slice-read-if1 c = omega arith
 -- there is room for the row of a marked rank
 room :
     (c : tie.Then1 Inv-loop μ-loop)
-    → c .before .before .before .before .before .before .args .at + 2 * c .before .before .before .loop .n + 1
-    < length (c .before .before .before .before .before .before .args .work .now)
+    → start-of c .args .at + 2 * c .before .before .before .loop .n + 1
+    < length (start-of c .args .work .now)
 room c =
     let turn = c .before .before in
     let start = turn .before .before .before .before in
@@ -55,7 +59,7 @@ add-cell c = omega (arith, room c)
 
 mul-cell-2 : tie.Need-mul-cell-2 Inv-loop μ-loop
 mul-cell-2 c =
-    let start = c .before .before .before .before .before .before in
+    let start = start-of c in
     omega (arith, room c, start .good .1 .1 .1 .0 .1)
 
 slice-set-from-cell : tie.Need-slice-set-from-cell Inv-loop μ-loop
@@ -75,7 +79,7 @@ add-t13 c = omega (arith, room (c .before))
 
 mul-t18 : tie.Need-mul-t18 Inv-loop μ-loop
 mul-t18 c =
-    let start = c .before .before .before .before .before .before .before in
+    let start = start-of (c .before) in
     omega (arith, room (c .before), start .good .1 .1 .1 .0 .1)
 
 slice-set-from-work : tie.Need-slice-set-from-work Inv-loop μ-loop

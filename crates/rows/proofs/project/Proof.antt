@@ -42,12 +42,16 @@ shared-slice-read-wide c = search needs
 wide-requires : tie.Need-wide-requires Inv-loop μ-loop
 wide-requires c κs = search needs
 
+-- the place of the entry
+abbrev start-of : tie.After-wide Inv-loop μ-loop → tie.Start Inv-loop μ-loop
+start-of c = c .before .before .before .before .before .before
+
 -- the byte names a column
 below :
     (c : tie.After-wide Inv-loop μ-loop)
-    → c .wide .result < c .before .before .before .before .before .before .args .w
+    → c .wide .result < start-of c .args .w
 below c =
-    column-below _ _ _ _ _ _ (omega arith) (c .before .before .before .before .before .before .pre .1 .1)
+    column-below _ _ _ _ _ _ (omega arith) (start-of c .pre .1 .1)
     (omega arith) (c .wide .ensures)
 
 add-work : tie.Need-add-work Inv-loop μ-loop
