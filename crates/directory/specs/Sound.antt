@@ -1,8 +1,8 @@
 -- Operators that are sound for the tables before them (document 01, 'Plan operators'), as the code meets them.
 --     Stands dir top t        table t is entered, stands below cell `top`, and is 1 to 6 wide
 --     wide dir t              the width of table t
---     madeWidth dir o         the width of the table that operator o makes
---     Sound plan dir n o      o's tables are among the first n, and it suits their widths
+--     madeOf dir o ts, madeWidth dir o     the width of the table that operator o makes
+--     SoundOf plan dir n o ts, Sound plan dir n o     o's tables are among the first n, and it suits their widths
 --     Served dir o            .. which the directory lists
 use Prim.Native.Nat.{ℕ, _+_, _*_, _≤_, _<_}
 use mathlib.Core.List.{List}

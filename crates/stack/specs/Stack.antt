@@ -4,7 +4,7 @@
 --     Paired                  the items of two operands, and the count of what stood while they were worked out
 --     paired cells top p      what an answer for two operands says, read from the cells
 --     Fit, FitPair            the count of an answer is within the room, and its items within its count
---     Ends r e                the operand of answer r ends at offset e, where its items stand
+--     Ends r e, EndsPair p e     the operand, or the second of two, ends at offset e, where its items stand
 --     At n e                  n is the offset e
 --     Sums p                  the items of two operands are within their count
 --     raising k r             the same items, where at least k stood

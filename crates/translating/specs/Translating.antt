@@ -7,6 +7,7 @@
 --                            the variables' tables ts; y is left, and r tells q's result, where writing stands, and
 --                            next
 --     Makes, MakesOne, MakesTwo, MakesThree    the same of what is read
+--     branched q n l e       the operators of a branch of QI: its variables' from table l on, then its own
 --     AskedBranch, MakesBranch    the same of a branch of QI: the variables free in it are lifted first
 use Prim.Native.Nat.{ℕ, _+_, _*_}
 use mathlib.Core.Path.{_≡_}
@@ -72,7 +73,6 @@ pub record MakesThree
     Type 0 where
   pub made : (o : Three rd at) → Translates (f (o .c .q) (o .a .q) (o .b .q)) (o .b .end) l ts x p y r
 
--- the operators of a branch of QI: its variables' from table l on, then its own
 unfoldable pub branched : Query → ℕ → ℕ → Tables → Made
 branched q n l e =
     let lift = lifts e l (0 ∷ 1 ∷ 2 ∷ []) n (freeIn q) in

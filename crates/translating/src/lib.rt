@@ -37,6 +37,7 @@ pub fn expression(
         r ⌝ }
 {
     let Reading::Sound(found) = query_records::read(query, at) else {
+        // never: an accepted query has a record here
         return variable(tables, 0, pen, at);
     };
     let kind = found.kind;

@@ -9,6 +9,7 @@
 --     Branches b w t ..          the same of a tree that is worked out where b is true; else nothing changes
 --     Pairs w rd at b top room s before after p    the same of two trees that rd gives one behind the other from `at`
 --                                on; the second sees the items of the first in the variable of binding b
+--     turn w e v q left x        what a turn of a `for` works out, for item x of its variable v
 --     Turns w t v top room n count next s before after p    the same of the turns of a `for`: its body is the tree that
 --                                t gives, and the n items from top on are those of its variable v, counted `count`
 use Prim.Native.Nat.{ℕ, _-_}

@@ -381,10 +381,12 @@ pub fn work_out(
         top room scope (now (work .entry)) (now (work .exit)) r ⌝ }
 {
     if depth == 0 {
+        // never: an accepted query is at most 32 levels deep
         return Stood::Failed(at);
     }
     let reading = query_records::read(query, at);
     let Reading::Sound(found) = reading else {
+        // never: an accepted query has a record here
         return Stood::Failed(at);
     };
     let kind = found.kind;
