@@ -1,5 +1,6 @@
 -- Each operator of encoded rows makes the encoding of what the typed function makes of the rows.
 --     attach-encoded, project-encoded       RA, RP
+--     sameRow-self                          a row is equal to itself
 --     minus-self, minus-encoded             RD: of a table with itself; of loops
 --     select-encoded                        RS
 --     join-encoded                          RJ
@@ -54,7 +55,7 @@ unfolding same
 same-self (pos n) = eq-eqb n n refl
 same-self (negsuc n) = eq-eqb n n refl
 
-sameRow-self : (r : Row) → sameRow r r ≡ true
+pub sameRow-self : (r : Row) → sameRow r r ≡ true
 unfolding sameRow
 sameRow-self [] = refl
 sameRow-self (z ∷ r) = rw (same-self z, sameRow-self r)

@@ -1,5 +1,6 @@
 -- What a table of rows (iteration, place, item) says of the iterations of a loop.
 --     Family                 a sequence of items for each iteration
+--     Mask                   some iterations
 --     placed i n xs          the rows of iteration i with items xs at places n + 1, n + 2, ..
 --     Represents t s         in table t the rows of each iteration i, in row order, are s i at places 1, 2, ..
 --     Loops l m              the loop table l holds each iteration of m once, and no other

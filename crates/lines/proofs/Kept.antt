@@ -1,4 +1,5 @@
 -- A column copied, cell by cell.
+--     length-column            a column is as long as its rows are many
 --     kept-none, kept-more     no cell, and one cell more
 use Prim.Native.Nat.{ℕ, zero, suc, _+_, _*_, _<_}
 use mathlib.Core.Path.{_≡_, sym, ap, _∙_}
@@ -24,7 +25,7 @@ module _ (xs : List ℤ) (w c : ℕ) (inside : c < w) where
       ap (getD (row xs a w) c (pos 0) ∷_)
       (column-more (a + w) i ∙ ap (λ (b : ℕ). column (rowsAt xs (a + w) i w) c ++ (getD xs (b + c) (pos 0) ∷ [])) e)
 
-  length-column : (a i : ℕ) → length (column (rowsAt xs a i w) c) ≡ i
+  pub length-column : (a i : ℕ) → length (column (rowsAt xs a i w) c) ≡ i
   unfolding column
   length-column a i = length-map (rowsAt xs a i w) _ ∙ length-rowsAt xs a i w
 

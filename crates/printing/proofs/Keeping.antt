@@ -12,10 +12,10 @@ use native.Mathlib.Omega.{arith}
 use denote.Enum.Declared.{tagOf}
 use types.Run.{OneOf, miss}
 use lib.IntN.{ℤ}
-use lib.ListN.{length, getD, take, drop, length-map}
+use lib.ListN.{length, getD, take, drop}
 use lib.Seq.{take-at, take-all}
 use Rattle.laws.specs.Rows.{rowsAt, laid}
-use Rattle.laws.proofs.Rows.{length-rowsAt, laid-nothing}
+use Rattle.laws.proofs.Rows.{laid-nothing}
 use Rattle.meaning.specs.Operators.{column}
 use Rattle.meaning.specs.Calls.{Answer, gives, refused, Outcome, evaluateCall}
 use Rattle.runner.specs.declared.Ran.{Ran}
@@ -27,6 +27,7 @@ use Rattle.lines.specs.declared.Told.the-variants.{Gave, Refused}
 use Rattle.lines.specs.Text.{firstLines, refusedWith, agree, verdict, text}
 use Rattle.lines.specs.Printed.{valueOf, toldBy}
 use Rattle.lines.specs.Placed.{Stands, roomFor}
+use Rattle.lines.proofs.Kept.{length-column}
 use Rattle.printing.specs.Engines.{second, Within}
 
 -- Keeping
@@ -100,10 +101,6 @@ unfolding valueOf toldBy roomFor
 rows-room (gives ns) l h k = omega arith
 rows-room (refused n p) l h k = omega arith
 
-length-column : (xs : List ℤ) (a n : ℕ) → length (column (rowsAt xs a n 3) 2) ≡ n
-unfolding column
-length-column xs a n = length-map (rowsAt xs a n 3) _ ∙ length-rowsAt xs a n 3
-
 -- the text looks at no more than the items that were given
 text-taken : (t : Told) (n : ℕ) (xs ys : List ℤ) (e : Told) (zs : List ℤ) → take n xs ≡ take n ys
     → text t (Gave n) xs e zs ≡ text t (Gave n) ys e zs
@@ -128,5 +125,5 @@ pub text-kept : (t : Told) (a : Answer) (left ys : List ℤ) (e : Told) (zs : Li
     ≡ text t (toldBy 1 a) (column (rowsAt left (valueOf 0 a) (valueOf 1 a) 3) 2) e zs
 unfolding valueOf toldBy
 text-kept t (gives ns) left ys e zs =
-    text-taken t _ _ _ e zs (take-kept ys _ _ (length-column left (getD ns 0 0) (getD ns 1 0)))
+    text-taken t _ _ _ e zs (take-kept ys _ _ (length-column left 3 2 (omega arith) (getD ns 0 0) (getD ns 1 0)))
 text-kept t (refused n p) left ys e zs = text-untaken t n p _ _ e zs

@@ -15,7 +15,6 @@ use lib.IntN.{ℤ}
 use lib.ListN.{length, take}
 use lib.Seq.{take-all}
 use Rattle.cells.specs.Bytes.{Bytes}
-use Rattle.cells.proofs.Cells.{same-refl}
 use Rattle.laws.specs.Attempt.{Attempt, Reading, refuses, reads, reading}
 use Rattle.meaning.specs.Catalogue.{Catalogue, catalogueRead}
 use Rattle.meaning.specs.Query.{Read, queryRead}
@@ -27,6 +26,7 @@ use Rattle.meaning.specs.Calls.{translateOutcome, translateCall, runOutcome, ru
 use Rattle.theorems.proofs.PlanRead.{query-plan-back, translated}
 use Rattle.theorems.specs.PlanRead.{Translated}
 use Rattle.agreement.specs.Passing.{means, Refused as RefusedBy, itemsAt, Alike, bothFail, bothGive}
+use Rattle.agreement.proofs.Encoded.{sameRow-self}
 use Rattle.agreement.proofs.EnginesAgree.{agree-in-hand}
 use Rattle.lines.specs.declared.Told.{Told}
 use Rattle.lines.specs.declared.Told.the-variants.{Gave, Refused}
@@ -65,11 +65,6 @@ refused-alike n p q r e h k d =
     by-test false true h e = agree-differs e
     by-test false false h e = let z : _≡_ {A = ℕ} 0 1 = cc in omega arith
 
-same-items : (xs : List ℤ) → sameRow xs xs ≡ true
-unfolding sameRow
-same-items [] = refl
-same-items (x ∷ xs) = rw (same-refl x, same-items xs)
-
 -- the same items are no difference
 given-alike : (items : List ℤ) (start filled count : ℕ) (r e : Outcome ℤ)
     → r .answer ≡ gives (start ∷ length items ∷ filled ∷ []) → e .answer ≡ gives (length items ∷ count ∷ [])
@@ -83,7 +78,7 @@ given-alike items start filled count r e h k l m d =
     (ap (λ (xs : List ℤ). sameRow (take (length items) xs) (take (length items) (e .left))) l
     ∙ ap (λ (xs : List ℤ). sameRow (take (length items) items) xs) m
     ∙ ap (λ (xs : List ℤ). sameRow xs items) (take-all (length items) items (omega arith))
-    ∙ same-items items)
+    ∙ sameRow-self items)
     ∙ sym (ap (λ (a : Answer).
     verdict (toldBy 1 a) (runItems (record { answer = a; left = r .left })) (toldBy 0 (e .answer)) (e .left)) h
     ∙ ap (λ (a : Answer).

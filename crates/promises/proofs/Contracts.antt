@@ -1,13 +1,16 @@
 -- What the contracts of the public functions say, from their own text.
+--     tell-..           what `tell` leaves
 --     contracts         the answer, and what is left, are those of the call
 --     decided           two outcomes that a contract allows are equal
 --     in-hand           demand 3 of what a caller has in hand
 --     told-never        what `tell` leaves never holds `same no`
-use Prim.Native.Nat.{ℕ}
+use Prim.Native.Nat.{ℕ, _+_}
 use mathlib.Core.Path.{_≡_, refl, sym, _∙_, subst}
 use mathlib.Core.List.{List, [], _∷_}
-use lib.ListN.{take}
-use Rattle.meaning.specs.Calls.{Answer, gives}
+use lib.IntN.{ℤ}
+use lib.ListN.{length, take}
+use Rattle.laws.specs.Rows.{laid}
+use Rattle.meaning.specs.Calls.{Answer, gives, translateCall}
 use Rattle.agreement.specs.Passing.{Held}
 use Rattle.agreement.proofs.EnginesAgree.{agree-in-hand}
 use Rattle.catalogue.specs.Answers as Catalogue
@@ -22,7 +25,8 @@ use Rattle.runner.proofs.Decided as RunnerDecided
 use Rattle.evaluator.specs.Answers as Evaluator
 use Rattle.evaluator.proofs.Decided as EvaluatorDecided
 use Rattle.lines.specs.Text.{sameNo, Nowhere}
-use Rattle.lines.specs.Printed.{printed}
+use Rattle.lines.specs.Printed.{runItems, printed}
+use Rattle.printing.specs.Engines.{second, planned, planRun}
 use Rattle.promises.specs.Contracts.{TellAllows}
 use Rattle.promises.specs.Promises.{Contracts, Decides, Demand3InHand}
 
@@ -35,6 +39,27 @@ contracts =
       run = λ plan doc work a work′ h. let (x, y) = h .contract in record { answers = cc; leaves = cc };
       evaluate = λ query doc work a work′ h. let (x, y) = h .contract in record { answers = cc; leaves = cc };
     }
+
+-- what `tell` leaves, by its query, its catalogue and what it was lent
+module _ (query doc : List ℕ) (work kept : List ℤ) (text : List ℕ) (n : ℕ) (plan′ : List ℕ) (work′ kept′ : List ℤ)
+    (text′ : List ℕ) (h : TellAllows query doc work kept text n plan′ work′ kept′ text′) where
+  tell-end : n ≡ 0 + length (printed doc query)
+  tell-end = let e = h .contract .put .ended in cc
+
+  tell-text : text′ ≡ laid text 0 (printed doc query)
+  tell-text = let e = h .contract .put .written in cc
+
+  tell-plan : plan′ ≡ translateCall query 6144 .left
+  tell-plan = let e = h .contract .plan in cc
+
+  tell-cells : work′
+      ≡ planned (translateCall query 6144 .answer)
+      (second (planRun query doc .answer) (planRun query doc .left) query doc .left) work
+  tell-cells = let e = h .contract .cells in cc
+
+  tell-items : kept′
+      ≡ planned (translateCall query 6144 .answer) (laid kept 0 (runItems (planRun query doc))) kept
+  tell-items = let e = h .contract .items in cc
 
 pub decided : Decides
 decided =
@@ -55,6 +80,15 @@ decided =
           let x = contracts .evaluate query doc work a xs h in
           let y = contracts .evaluate query doc work b ys k in
           (EvaluatorDecided.same-answer a b (x .answers ∙ sym (y .answers)), x .leaves ∙ sym (y .leaves));
+      tell = λ query doc work kept text n m ps qs ws xs ks ls ts us h k. (
+        tell-end query doc work kept text n ps ws ks ts h ∙ sym (tell-end query doc work kept text m qs xs ls us k),
+        tell-plan query doc work kept text n ps ws ks ts h ∙ sym (tell-plan query doc work kept text m qs xs ls us k),
+        tell-cells query doc work kept text n ps ws ks ts h
+            ∙ sym (tell-cells query doc work kept text m qs xs ls us k),
+        tell-items query doc work kept text n ps ws ks ts h
+            ∙ sym (tell-items query doc work kept text m qs xs ls us k),
+        tell-text query doc work kept text n ps ws ks ts h ∙ sym (tell-text query doc work kept text m qs xs ls us k),
+      );
     }
 
 pub in-hand : Demand3InHand
@@ -65,10 +99,11 @@ in-hand query doc bytes bytes′ work work′ cells cells′ r e n m rows small 
     (contracts .catalogue doc _ hk) refl (contracts .run (take m bytes′) doc work r work′ hr) not-run
     (contracts .evaluate query doc cells e cells′ he) not-evaluation
 
-pub told-never : (query doc text : List ℕ) (n : ℕ) (text′ : List ℕ) → TellAllows query doc text n text′
+pub told-never : (query doc : List ℕ) (work kept : List ℤ) (text : List ℕ) (n : ℕ) (plan′ : List ℕ)
+    (work′ kept′ : List ℤ) (text′ : List ℕ) → TellAllows query doc work kept text n plan′ work′ kept′ text′
     → (take n text′ ≡ printed doc query) × Nowhere sameNo (take n text′)
-told-never query doc text n text′ h =
+told-never query doc work kept text n plan′ work′ kept′ text′ h =
     let e = h .contract .prints in (
       cc,
-      subst (λ (xs : List ℕ). Nowhere sameNo (take n xs)) (h .left) (h .contract .never-no),
+      subst (λ (xs : List ℕ). Nowhere sameNo (take n xs)) (h .left-text) (h .contract .never-no),
     )

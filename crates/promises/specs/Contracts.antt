@@ -6,7 +6,8 @@
 --     TranslateAllows query b a b′       .. of `translator::translate`, lent bytes b, to answer a and leave b′
 --     RunAllows plan doc w a w′          .. of `runner::run`, lent cells w, to answer a and leave w′
 --     EvaluateAllows query doc w a w′    .. of `evaluator::evaluate`
---     TellAllows query doc t n t′        .. of `printing::tell`, lent bytes t for its text, to answer n and leave t′
+--     TellAllows query doc w k t n ..    .. of `printing::tell`, lent cells w, cells k and bytes t besides the plan's,
+--                                        to answer n and leave plan′, work′, kept′ and text′
 use Prim.Native.Nat.{ℕ}
 use mathlib.Core.Path.{_≡_}
 use mathlib.Core.List.{List}
@@ -76,12 +77,18 @@ pub record EvaluateAllows (query doc : List ℕ) (work : List ℤ) (answer : Eva
   pub lent : now (given .1 .1 .0) ≡ work
   pub left : now (end .1 .1 .0) ≡ work′
 
-pub record TellAllows (query doc text : List ℕ) (n : ℕ) (text′ : List ℕ) : Type 0 where
+pub record TellAllows (query doc : List ℕ) (work kept : List ℤ) (text : List ℕ) (n : ℕ) (plan′ : List ℕ)
+    (work′ kept′ : List ℤ) (text′ : List ℕ) : Type 0 where
   pub lifetimes : Lfts 6
   pub given : Dens lifetimes TellKinds.ps
   pub end : AtExit (endedOf 6 TellKinds.ps TellKinds.r) lifetimes
   pub contract : Tell.Learnt lifetimes given n end
   pub of-query : now (given .0) ≡ query
   pub of-doc : now (given .1 .0) ≡ doc
-  pub lent : now (given .1 .1 .1 .1 .1 .0) ≡ text
-  pub left : now (end .1 .1 .1 .1 .1 .0) ≡ text′
+  pub lent-cells : now (given .1 .1 .1 .0) ≡ work
+  pub lent-kept : now (given .1 .1 .1 .1 .0) ≡ kept
+  pub lent-text : now (given .1 .1 .1 .1 .1 .0) ≡ text
+  pub left-plan : now (end .1 .1 .0) ≡ plan′
+  pub left-cells : now (end .1 .1 .1 .0) ≡ work′
+  pub left-kept : now (end .1 .1 .1 .1 .0) ≡ kept′
+  pub left-text : now (end .1 .1 .1 .1 .1 .0) ≡ text′

@@ -189,6 +189,11 @@ pub record Decides : Type 0 where
       → RunAllows plan doc work b ys → (a ≡ b) × (xs ≡ ys)
   pub evaluate : (query doc : List ℕ) (work : List ℤ) (a b : Evaluated) (xs ys : List ℤ)
       → EvaluateAllows query doc work a xs → EvaluateAllows query doc work b ys → (a ≡ b) × (xs ≡ ys)
+  -- .. and `tell`, which `chartask` prints from: the text's end, the plan's bytes, the cells, the kept items, the text
+  pub tell : (query doc : List ℕ) (work kept : List ℤ) (text : List ℕ) (n m : ℕ) (ps qs : List ℕ)
+      (ws xs ks ls : List ℤ) (ts us : List ℕ) → TellAllows query doc work kept text n ps ws ks ts
+      → TellAllows query doc work kept text m qs xs ls us
+      → (n ≡ m) × (ps ≡ qs) × (ws ≡ xs) × (ks ≡ ls) × (ts ≡ us)
 
 -- DEMAND 3 in hand, for whoever calls translate, then run with the plan's bytes and evaluate with the query, each with
 -- the same catalogue, and reads their contracts; what is primed is what a lent slice holds afterwards
@@ -209,7 +214,8 @@ Demand3InHand =
 
 pub record NeverNo : Type 0 where
   pub printed-text : (doc query : List ℕ) → Bytes query → Nowhere sameNo (printed doc query)
-  pub told-text : (query doc text : List ℕ) (n : ℕ) (text′ : List ℕ) → TellAllows query doc text n text′
+  pub told-text : (query doc : List ℕ) (work kept : List ℤ) (text : List ℕ) (n : ℕ) (plan′ : List ℕ)
+      (work′ kept′ : List ℤ) (text′ : List ℕ) → TellAllows query doc work kept text n plan′ work′ kept′ text′
       → (take n text′ ≡ printed doc query) × Nowhere sameNo (take n text′)
 
 -- SHUT OUT. Engines that document 01 names, on input that passes its checks: none keeps the contract of its call. A
