@@ -20,8 +20,8 @@ use Rattle.meaning.specs.Catalogue.{Catalogue}
 use Rattle.meaning.specs.World.{axisHolds, onAxis}
 use Rattle.catalogue.specs.Nested.{Nested}
 use Rattle.catalogue.proofs.Fragments.{fragment-covered}
-use Rattle.marks.specs.Nodes.{ranks}
-use Rattle.marks.proofs.Ranks.{any-is}
+use Rattle.nodesets.specs.Nodes.{ranks}
+use Rattle.nodesets.proofs.Ranks.{any-is}
 use Rattle.axes.proofs.Parents.{parent-over, only-parent}
 use Rattle.axes.proofs.Conditions.{on-axis, axis-of, child, child-of}
 

@@ -13,7 +13,7 @@ use Rattle.cells.specs.declared.Axis.{Axis}
 use Rattle.meaning.specs.Catalogue.{Catalogue}
 use Rattle.meaning.specs.World.{fragment, isDescendant, isChild, axisHolds, onAxis}
 use Rattle.laws.proofs.Booleans.{both-true}
-use Rattle.marks.proofs.Tests.{both-and}
+use Rattle.nodesets.proofs.Tests.{both-and}
 
 module _ (c : Catalogue) where
   module _ (axis : Axis) (x v : ℕ) where

@@ -23,9 +23,9 @@ use Rattle.meaning.specs.World.{isDescendant, axisHolds, onAxis}
 use Rattle.catalogue.specs.Nested.{Nested}
 use Rattle.catalogue.proofs.Fragments.{fragment-covered}
 use Rattle.axes.specs.Steps.{orSelf}
-use Rattle.marks.specs.Nodes.{ranks}
-use Rattle.marks.proofs.Tests.{or-cases, or-left, or-right}
-use Rattle.marks.proofs.Ranks.{any-is}
+use Rattle.nodesets.specs.Nodes.{ranks}
+use Rattle.nodesets.proofs.Tests.{or-cases, or-left, or-right}
+use Rattle.nodesets.proofs.Ranks.{any-is}
 use Rattle.axes.proofs.Conditions.{on-axis, axis-of, fragment-of, descendant, descendant-of}
 
 pub record Until (n : ℕ) (size : ℕ → ℕ) (ms : List Bool) (v until : ℕ) : Type 0 where

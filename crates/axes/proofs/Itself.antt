@@ -10,8 +10,8 @@ use Rattle.cells.specs.declared.Axis.the-variants.{Itself}
 use Rattle.laws.specs.Lists.{any}
 use Rattle.meaning.specs.Catalogue.{Catalogue}
 use Rattle.meaning.specs.World.{axisHolds, onAxis}
-use Rattle.marks.specs.Nodes.{ranks}
-use Rattle.marks.proofs.Ranks.{any-is}
+use Rattle.nodesets.specs.Nodes.{ranks}
+use Rattle.nodesets.proofs.Ranks.{any-is}
 use Rattle.axes.proofs.Conditions.{on-axis, axis-of}
 
 pub self-flag :

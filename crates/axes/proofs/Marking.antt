@@ -17,7 +17,7 @@ use Rattle.cells.specs.declared.Test.{Test}
 use Rattle.meaning.specs.Catalogue.{catalogueOf}
 use Rattle.meaning.specs.World.{onAxis, passes}
 use Rattle.axes.specs.Steps.{Marks, Part}
-use Rattle.marks.specs.Nodes.{ranks}
+use Rattle.nodesets.specs.Nodes.{ranks}
 
 module _ (R : ℕ → ℕ → Bool) (T : ℕ → Bool) (xs : List ℕ) (old : List Bool) where
   pub marks-none : (k : ℕ) → Marks k k R T xs old old

@@ -23,9 +23,9 @@ use Rattle.meaning.specs.Catalogue.{Catalogue}
 use Rattle.meaning.specs.World.{axisHolds, onAxis}
 use Rattle.catalogue.specs.Nested.{Nested}
 use Rattle.catalogue.proofs.Fragments.{fragment-covered}
-use Rattle.marks.specs.Nodes.{ranks}
-use Rattle.marks.proofs.Tests.{or-cases, or-left, or-right, le-or-lt}
-use Rattle.marks.proofs.Ranks.{any-is}
+use Rattle.nodesets.specs.Nodes.{ranks}
+use Rattle.nodesets.proofs.Tests.{or-cases, or-left, or-right, le-or-lt}
+use Rattle.nodesets.proofs.Ranks.{any-is}
 use Rattle.axes.proofs.Conditions.{on-axis, axis-of, child, child-of}
 
 -- a marked row from i on, of level l, with no row from i up to it above its level

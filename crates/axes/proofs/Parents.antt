@@ -12,7 +12,7 @@ use native.Mathlib.Decide.{ℕ-discrete}
 use native.Mathlib.Numerals.{add-one}
 use native.Mathlib.Omega.{arith}
 use Rattle.catalogue.specs.Nested.{Nested}
-use Rattle.marks.proofs.Tests.{le-or-lt}
+use Rattle.nodesets.proofs.Tests.{le-or-lt}
 
 pub record Over (size level : ℕ → ℕ) (p v : ℕ) : Type 0 where
   pub early : p < v

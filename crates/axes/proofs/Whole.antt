@@ -20,12 +20,12 @@ use Rattle.meaning.specs.Catalogue.{Catalogue, catalogueOf}
 use Rattle.meaning.specs.World.{onAxis, passes, reached, step}
 use Rattle.catalogue.specs.Nested.{Nested}
 use Rattle.catalogue.specs.Sound.{Sound}
-use Rattle.marks.specs.declared.Marked.the-variants.{AllNodes, NotANode}
+use Rattle.nodesets.specs.declared.Marked.the-variants.{AllNodes, NotANode}
 use Rattle.axes.specs.Steps.{Known, Step}
-use Rattle.marks.specs.Nodes.{ranks}
-use Rattle.marks.specs.Nodes.{MarkSet, FromAll}
-use Rattle.marks.proofs.Ranks.{below-same}
-use Rattle.marks.proofs.Nodes.{any-holds}
+use Rattle.nodesets.specs.Nodes.{ranks}
+use Rattle.nodesets.specs.Nodes.{MarkSet, FromAll}
+use Rattle.nodesets.proofs.Ranks.{below-same}
+use Rattle.nodesets.proofs.Nodes.{any-holds}
 
 pub known-sound : (doc : List ℕ) (c : Catalogue) → Sound doc c → Known doc (c .rows)
 known-sound doc c s =

@@ -21,7 +21,7 @@ use Rattle.cells.specs.declared.Test.{Test}
 use Rattle.meaning.specs.Catalogue.{catalogueOf}
 use Rattle.meaning.specs.World.{onAxis, passes}
 use Rattle.catalogue.specs.Nested.{Nested}
-use Rattle.marks.specs.Nodes.{ranks}
+use Rattle.nodesets.specs.Nodes.{ranks}
 
 pub record Marks (lo hi : ℕ) (R : ℕ → ℕ → Bool) (T : ℕ → Bool) (xs : List ℕ) (old new : List Bool) : Type 0 where
   pub inside : (v : ℕ) → lo ≤ v → v < hi → getD new v false ≡ (any (λ x. R x v) xs && T v)

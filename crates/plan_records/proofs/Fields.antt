@@ -73,7 +73,8 @@ module _ (bs : List ℕ) (h : Bytes bs) (at : ℕ) where
   step-own =
       given-any _
       (λ x.
-      given-attempt (name-fits (field bs at 5) (word bs (at + 6) 2) (word-bound bs h (at + 6) 2)) (λ y k. given-gives k))
+      given-attempt (name-fits (field bs at 5) (word bs (at + 6) 2) (word-bound bs h (at + 6) 2))
+      (λ y k. given-gives k))
 
   root-own : (t k : ℕ) → Given Own (attempt (fragmentOf k) (λ k. gives (Op.RO t k)))
   unfolding fragmentOf Own

@@ -20,11 +20,11 @@ use Rattle.meaning.specs.Catalogue.{catalogueOf}
 use Rattle.meaning.specs.World as World
 use Rattle.meaning.specs.World.{worldOf}
 use Rattle.meaning.specs.Counted.{adding}
-use Rattle.marks.specs.declared.Marked.{Marked}
-use Rattle.marks.specs.declared.Marked.the-variants.{AllNodes, NotANode}
+use Rattle.nodesets.specs.declared.Marked.{Marked}
+use Rattle.nodesets.specs.declared.Marked.the-variants.{AllNodes, NotANode}
 use Rattle.axes.specs.Steps.{Step}
-use Rattle.marks.specs.Nodes.{ranks}
-use Rattle.marks.specs.Nodes.{FromAll}
+use Rattle.nodesets.specs.Nodes.{ranks}
+use Rattle.nodesets.specs.Nodes.{FromAll}
 use Rattle.axes.proofs.Whole.{step-gives, step-fails}
 use Rattle.stack.specs.declared.Stood.{Stood}
 use Rattle.stack.specs.declared.Stood.the-variants as Stood

@@ -29,9 +29,9 @@ use Rattle.meaning.specs.Catalogue.{catalogueOf}
 use Rattle.meaning.specs.World.{World, step}
 use Rattle.meaning.specs.Meaning.{apply, values}
 use Rattle.meaning.specs.Counted.{Standing, stand, adding}
-use Rattle.marks.specs.declared.Marked.{Marked}
-use Rattle.marks.specs.declared.Marked.the-variants.{AllNodes, NotANode}
-use Rattle.marks.specs.Nodes.{ranks}
+use Rattle.nodesets.specs.declared.Marked.{Marked}
+use Rattle.nodesets.specs.declared.Marked.the-variants.{AllNodes, NotANode}
+use Rattle.nodesets.specs.Nodes.{ranks}
 use Rattle.stack.specs.Stack.{Paired}
 
 unfoldable pub rooted : World → ℕ → ℕ → ℕ → Work Standing

@@ -3,7 +3,7 @@ use cells::Axis;
 use cells::Function;
 use cells::Test;
 use items::Tried;
-use marks::Marked;
+use nodesets::Marked;
 ghost use mathlib.Core.Path.{_≡_};
 ghost use mathlib.Core.List.{[], _∷_};
 ghost use Prim.Native.Nat.{ℕ, _+_, _-_, _*_, _≤_, _<_, max};
@@ -344,7 +344,7 @@ fn reach(
     requires { ⌜ Ready (now doc) rows (now from) (now to) ⌝ }
     ensures { λ m. ⌜ Reaches (now (doc .entry)) rows axis test (now (cells .entry)) (now (to .exit)) m ⌝ }
 {
-    let marked = marks::mark(cells, rows, from);
+    let marked = nodesets::mark(cells, rows, from);
     let Marked::AllNodes = marked else {
         return Marked::NotANode;
     };
@@ -385,11 +385,11 @@ pub fn step(
     let Marked::AllNodes = marked else {
         return Stood::Failed(at);
     };
-    let n = marks::count(to, rows);
+    let n = nodesets::count(to, rows);
     if room - end < n {
         return Stood::Full(at);
     }
-    marks::write(to, rows, work, top);
+    nodesets::write(to, rows, work, top);
     Stood::Items {
         length: n,
         count: larger(count, length + n),

@@ -24,12 +24,12 @@ use Rattle.meaning.specs.Catalogue.{Catalogue, catalogueOf}
 use Rattle.meaning.specs.World as World
 use Rattle.meaning.specs.World.{ranksOf}
 use Rattle.meaning.specs.Operators.{Row, Table, cell, column, groupOf}
-use Rattle.marks.specs.declared.Marked.{Marked}
-use Rattle.marks.specs.declared.Marked.the-variants.{AllNodes, NotANode}
+use Rattle.nodesets.specs.declared.Marked.{Marked}
+use Rattle.nodesets.specs.declared.Marked.the-variants.{AllNodes, NotANode}
 use Rattle.axes.specs.Steps.{Step}
-use Rattle.marks.specs.Nodes.{ranks}
-use Rattle.marks.specs.Nodes.{MarkSet, FromOne, FromAll, rowsOf}
-use Rattle.marks.proofs.Nodes.{marked-none, one-more, one-fails}
+use Rattle.nodesets.specs.Nodes.{ranks}
+use Rattle.nodesets.specs.Nodes.{MarkSet, FromOne, FromAll, rowsOf}
+use Rattle.nodesets.proofs.Nodes.{marked-none, one-more, one-fails}
 use Rattle.axes.proofs.Whole as Whole
 use Rattle.tables.specs.declared.Laid.the-variants.{Rows, Full, Fails}
 use Rattle.tables.specs.Layout.{Wide, Owes}

@@ -11,9 +11,9 @@ use Rattle.meaning.specs.Catalogue.{Catalogue}
 use Rattle.meaning.specs.World.{rankOf}
 use Rattle.meaning.specs.Operators.{Row, cell}
 use Rattle.tables.specs.Laying.{succeeds}
-use Rattle.marks.specs.declared.Marked.{Marked}
-use Rattle.marks.specs.declared.Marked.the-variants.{AllNodes}
-use Rattle.marks.specs.Nodes.{FromOne}
+use Rattle.nodesets.specs.declared.Marked.{Marked}
+use Rattle.nodesets.specs.declared.Marked.the-variants.{AllNodes}
+use Rattle.nodesets.specs.Nodes.{FromOne}
 
 unfoldable pub isNode : Catalogue → ℤ → Bool
 isNode c x = succeeds (rankOf c x)

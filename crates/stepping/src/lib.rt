@@ -9,16 +9,16 @@ ghost use Rattle.meaning.specs.Catalogue.{Catalogue, catalogueOf};
 ghost use Rattle.meaning.specs.Operators.{cell, column, groupOf};
 ghost use Rattle.meaning.specs.World;
 ghost use Rattle.axes.specs.Steps.{Ready};
-ghost use Rattle.marks.specs.Nodes.{FromAll};
+ghost use Rattle.nodesets.specs.Nodes.{FromAll};
 ghost use Rattle.tables.specs.Layout.{tableAt, Inside, Owes};
 ghost use Rattle.members.specs.Grouped.{inFront};
 ghost use Rattle.stepping.specs.Marking.{isNode, FromRow};
 use cells::Axis;
 use cells::Test;
-use marks::Iteration;
-use marks::Marked;
-use marks::Ranked;
 use members::finding::cell_at;
+use nodesets::Iteration;
+use nodesets::Marked;
+use nodesets::Ranked;
 use tables::Laid;
 use tables::Stand;
 
@@ -26,7 +26,7 @@ use tables::Stand;
 fn is_node(cell: i64, rows: usize) -> bool
     ensures { λ r. ⌜ ((c : Catalogue) → c .rows ≡ rows → r ≡ isNode c cell) ⌝ }
 {
-    match marks::rank_of(cell, rows) {
+    match nodesets::rank_of(cell, rows) {
         Ranked::At(_) => true,
         Ranked::NotANode => false,
     }
@@ -73,7 +73,7 @@ fn mark_row(
     if !cells::same(iteration.0, cell_at(work, s, 0, i)) {
         return Marked::AllNodes;
     }
-    marks::mark_one(cell_at(work, s, 1, i), rows, marks)
+    nodesets::mark_one(cell_at(work, s, 1, i), rows, marks)
 }
 
 // Marks the nodes of the iteration, which is the first row's, and no other. Each row is looked at once, and each flag
@@ -91,7 +91,7 @@ fn mark_group(
         (column (groupOf (tableAt (now (work .entry)) s) 0 (inFront (tableAt (now (work .entry)) s) 0)) 1)
         m (now (marks .exit))) ⌝ }
 {
-    marks::clear(rows, marks);
+    nodesets::clear(rows, marks);
     let mut i: usize = 0;
     while i < s.rows {
         let one = mark_row(work, s, iteration, i, rows, marks);
@@ -130,10 +130,10 @@ pub fn step_group(
         return Laid::Fails;
     };
     axes::step(doc, rows, axis, test, from, to);
-    let n = marks::count(to, rows);
+    let n = nodesets::count(to, rows);
     if room - at < 2 * n {
         return Laid::Full;
     }
-    marks::write_rows(to, rows, iteration, work, at);
+    nodesets::write_rows(to, rows, iteration, work, at);
     Laid::Rows(n)
 }

@@ -2,7 +2,7 @@
 use mathlib.Core.Path.{sym, ap, _∙_}
 use mir.Facts.{toZ-ofZ}
 use Rattle.meaning.specs.World.{rankOf}
-use Rattle.marks.specs.Nodes.{found}
+use Rattle.nodesets.specs.Nodes.{found}
 use Rattle.tables.specs.Laying.{succeeds}
 use Rattle.stepping.specs.Marking.{isNode}
 use borrow.Author.Needs.{needs}

@@ -8,8 +8,8 @@ use mir.Syntax.{w64}
 use mir.Facts.{toZ-ofZ}
 use Rattle.cells.specs.Cell.{same}
 use Rattle.cells.proofs.Bits.{read-back}
-use Rattle.marks.specs.declared.Marked.the-variants.{AllNodes}
-use Rattle.marks.specs.Nodes.{FromOne}
+use Rattle.nodesets.specs.declared.Marked.the-variants.{AllNodes}
+use Rattle.nodesets.specs.Nodes.{FromOne}
 use Rattle.tables.specs.Layout.{tableAt}
 use Rattle.tables.specs.Order.{cellAt}
 use Rattle.stepping.proofs.Nodes.{from-yes, from-no}

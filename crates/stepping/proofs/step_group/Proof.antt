@@ -3,7 +3,7 @@
 use Prim.Native.Nat.{_-_}
 use native.Mathlib.Omega.{arith}
 use Rattle.meaning.specs.Catalogue.{catalogueOf}
-use Rattle.marks.proofs.Ranks.{length-ranks}
+use Rattle.nodesets.proofs.Ranks.{length-ranks}
 use Rattle.tables.specs.Layout.{Inside}
 use Rattle.stepping.proofs.Nodes.{rows-of, step-fails, step-full, step-laid}
 use borrow.Author.Needs.{needs}

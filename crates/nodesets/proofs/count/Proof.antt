@@ -3,10 +3,10 @@ use Prim.Native.Nat.{_≤_, _+_, _-_, zero-le}
 use mathlib.Core.Path.{_≡_, sym, ap}
 use native.Mathlib.Omega.{arith}
 use lib.ListN.{length}
-use Rattle.marks.specs.Nodes.{ranks}
-use Rattle.marks.proofs.Ranks.{ranks-none, length-ranks, length-ranks-more}
-use Rattle.marks.proofs.count.Statement.{statement}
-use Rattle.marks.proofs.count.Tie as tie
+use Rattle.nodesets.specs.Nodes.{ranks}
+use Rattle.nodesets.proofs.Ranks.{ranks-none, length-ranks, length-ranks-more}
+use Rattle.nodesets.proofs.count.Statement.{statement}
+use Rattle.nodesets.proofs.count.Tie as tie
 
 abbrev Inv-loop : tie.InvT-loop
 Inv-loop marks rows n₀ v₀ n v = (v ≤ rows) × (n ≡ length (ranks v marks))

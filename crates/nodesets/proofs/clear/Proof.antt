@@ -6,9 +6,9 @@ use native.Mathlib.Omega.{arith}
 use borrow.Author.Count.{below-more}
 use lib.ListN.{length, getD, set, length-set}
 use lib.Seq.{getD-set-same, getD-set-other}
-use Rattle.marks.proofs.Nodes.{holds-none}
-use Rattle.marks.proofs.clear.Statement.{statement}
-use Rattle.marks.proofs.clear.Tie as tie
+use Rattle.nodesets.proofs.Nodes.{holds-none}
+use Rattle.nodesets.proofs.clear.Statement.{statement}
+use Rattle.nodesets.proofs.clear.Tie as tie
 
 abbrev Inv-loop : tie.InvT-loop
 Inv-loop rows marks₀ v₀ marks v =

@@ -9,10 +9,10 @@ use lib.ListN.{length, set, length-set}
 use mir.Facts.{toZ-ofZ}
 use mir.Syntax.{w64}
 use Rattle.cells.specs.Cell.{nodeCell}
-use Rattle.marks.specs.Nodes.{Listed}
-use Rattle.marks.proofs.Writing.{laid-begin, laid-skip, node-take, ranks-room}
-use Rattle.marks.proofs.write.Statement.{statement}
-use Rattle.marks.proofs.write.Tie as tie
+use Rattle.nodesets.specs.Nodes.{Listed}
+use Rattle.nodesets.proofs.Writing.{laid-begin, laid-skip, node-take, ranks-room}
+use Rattle.nodesets.proofs.write.Statement.{statement}
+use Rattle.nodesets.proofs.write.Tie as tie
 
 abbrev Inv-loop : tie.InvT-loop
 Inv-loop marks rows work₀ at n₀ v₀ work n v =

@@ -32,12 +32,12 @@ use Rattle.laws.proofs.Booleans.{clash}
 use Rattle.laws.specs.Attempt.{Attempt, fails, gives, attempt, provided}
 use Rattle.meaning.specs.Catalogue.{Catalogue}
 use Rattle.meaning.specs.World.{rankIn, rankOf, ranksOf}
-use Rattle.marks.specs.declared.Marked.{Marked}
-use Rattle.marks.specs.declared.Marked.the-variants.{AllNodes, NotANode}
-use Rattle.marks.specs.Nodes.{ranks}
-use Rattle.marks.specs.Nodes.{among, MarkSet, FromOne, FromAll}
-use Rattle.marks.proofs.Tests.{or-cases, or-left, or-right}
-use Rattle.marks.proofs.Ranks.{any-append, any-is}
+use Rattle.nodesets.specs.declared.Marked.{Marked}
+use Rattle.nodesets.specs.declared.Marked.the-variants.{AllNodes, NotANode}
+use Rattle.nodesets.specs.Nodes.{ranks}
+use Rattle.nodesets.specs.Nodes.{among, MarkSet, FromOne, FromAll}
+use Rattle.nodesets.proofs.Tests.{or-cases, or-left, or-right}
+use Rattle.nodesets.proofs.Ranks.{any-append, any-is}
 
 one-only : (p : ℕ → Bool) (r : ℕ) → any p (r ∷ []) ≡ p r
 unfolding any

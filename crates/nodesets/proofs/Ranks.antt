@@ -17,7 +17,7 @@ use Rattle.laws.specs.Lists.{filter, any, below}
 use Rattle.laws.proofs.Filters.{filter-append, filter-same}
 use Rattle.laws.proofs.Booleans.{clash}
 use Rattle.laws.proofs.Lists.{all-map, all-below, byte-few}
-use Rattle.marks.specs.Nodes.{ranks}
+use Rattle.nodesets.specs.Nodes.{ranks}
 
 module _ {A : Type 0} where
   pub any-append : (p : A → Bool) (xs ys : List A) → any p (xs ++ ys) ≡ (any p xs || any p ys)

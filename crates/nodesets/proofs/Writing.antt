@@ -17,8 +17,8 @@ use Rattle.cells.specs.Cell.{nodeCell}
 use Rattle.laws.specs.Lists.{gather}
 use Rattle.laws.specs.Rows.{laid, flat}
 use Rattle.laws.proofs.Rows.{laid-nothing, set-more, length-snoc}
-use Rattle.marks.specs.Nodes.{ranks, rowsOf, Listed}
-use Rattle.marks.proofs.Ranks.{ranks-none, ranks-more, length-ranks-rises}
+use Rattle.nodesets.specs.Nodes.{ranks, rowsOf, Listed}
+use Rattle.nodesets.proofs.Ranks.{ranks-none, ranks-more, length-ranks-rises}
 
 module _ (ms : List Bool) (v : ℕ) where
   pub ranks-skip : getD ms v false ≡ false → ranks (v + 1) ms ≡ ranks v ms

@@ -1,8 +1,8 @@
 -- `marks::rank_in` meets its contract, item by item.
 use borrow.Author.Needs.{needs}
-use Rattle.marks.proofs.Nodes.{rank-node, rank-far, rank-integer, rank-truth}
-use Rattle.marks.proofs.rank_in.Statement.{statement}
-use Rattle.marks.proofs.rank_in.Tie as tie
+use Rattle.nodesets.proofs.Nodes.{rank-node, rank-far, rank-integer, rank-truth}
+use Rattle.nodesets.proofs.rank_in.Statement.{statement}
+use Rattle.nodesets.proofs.rank_in.Tie as tie
 
 enum-known-item : tie.Need-enum-known-item
 enum-known-item c = search needs

@@ -22,10 +22,10 @@ use Rattle.laws.specs.Attempt.{Attempt, fails, gives}
 use Rattle.laws.specs.Rows.{laid, flat}
 use Rattle.meaning.specs.Catalogue.{Catalogue}
 use Rattle.meaning.specs.World.{rankOf, ranksOf}
-use Rattle.marks.specs.declared.Ranked.{Ranked}
-use Rattle.marks.specs.declared.Ranked.the-variants as Ranked
-use Rattle.marks.specs.declared.Marked.{Marked}
-use Rattle.marks.specs.declared.Marked.the-variants as Marked
+use Rattle.nodesets.specs.declared.Ranked.{Ranked}
+use Rattle.nodesets.specs.declared.Ranked.the-variants as Ranked
+use Rattle.nodesets.specs.declared.Marked.{Marked}
+use Rattle.nodesets.specs.declared.Marked.the-variants as Marked
 
 unfoldable pub ranks : ℕ → List Bool → List ℕ
 ranks n ms = filter (λ r. getD ms r false) (below n)

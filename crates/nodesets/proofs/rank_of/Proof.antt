@@ -3,9 +3,9 @@ use mathlib.Core.Path.{sym, ap, _∙_}
 use borrow.Author.Needs.{needs}
 use mir.Facts.{toZ-ofZ}
 use Rattle.meaning.specs.World.{rankOf}
-use Rattle.marks.proofs.Nodes.{rank-item, rank-stray}
-use Rattle.marks.proofs.rank_of.Statement.{statement}
-use Rattle.marks.proofs.rank_of.Tie as tie
+use Rattle.nodesets.proofs.Nodes.{rank-item, rank-stray}
+use Rattle.nodesets.proofs.rank_of.Statement.{statement}
+use Rattle.nodesets.proofs.rank_of.Tie as tie
 
 item-of-requires : tie.Need-item-of-requires
 item-of-requires c κs = search needs

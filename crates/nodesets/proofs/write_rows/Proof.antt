@@ -12,11 +12,11 @@ use mir.Syntax.{w64}
 use mir.Val.{ofZ, toZ}
 use Rattle.cells.specs.Cell.{nodeCell}
 use Rattle.laws.specs.Rows.{laid}
-use Rattle.marks.specs.Nodes.{ranks}
-use Rattle.marks.specs.Nodes.{rowsOf, Listed}
-use Rattle.marks.proofs.Writing.{rows-begin, laid-skip, row-take, ranks-room}
-use Rattle.marks.proofs.write_rows.Statement.{statement}
-use Rattle.marks.proofs.write_rows.Tie as tie
+use Rattle.nodesets.specs.Nodes.{ranks}
+use Rattle.nodesets.specs.Nodes.{rowsOf, Listed}
+use Rattle.nodesets.proofs.Writing.{rows-begin, laid-skip, row-take, ranks-room}
+use Rattle.nodesets.proofs.write_rows.Statement.{statement}
+use Rattle.nodesets.proofs.write_rows.Tie as tie
 
 abbrev Inv-loop : tie.InvT-loop
 Inv-loop marks rows work₀ at cell n₀ v₀ work n v =

@@ -11,7 +11,7 @@ ghost use Rattle.cells.specs.declared.Held.the-variants as Holding;
 ghost use Rattle.laws.specs.Rows.{laid};
 ghost use Rattle.meaning.specs.Catalogue.{Catalogue};
 ghost use Rattle.meaning.specs.World;
-ghost use Rattle.marks.specs.Nodes.{ranks, Room, MarkSet, found, FromOne, FromAll, rowsOf};
+ghost use Rattle.nodesets.specs.Nodes.{ranks, Room, MarkSet, found, FromOne, FromAll, rowsOf};
 
 // The cell of an iteration, as a table's first column has it. It is never taken for a rank.
 pub struct Iteration(pub i64);

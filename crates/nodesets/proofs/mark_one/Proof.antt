@@ -8,10 +8,10 @@ use mir.Facts.{toZ-ofZ}
 use Rattle.laws.specs.Attempt.{gives}
 use Rattle.meaning.specs.Catalogue.{Catalogue, catalogueOf}
 use Rattle.meaning.specs.World.{rankOf}
-use Rattle.marks.specs.Nodes.{found}
-use Rattle.marks.proofs.Nodes.{rank-below}
-use Rattle.marks.proofs.mark_one.Statement.{statement}
-use Rattle.marks.proofs.mark_one.Tie as tie
+use Rattle.nodesets.specs.Nodes.{found}
+use Rattle.nodesets.proofs.Nodes.{rank-below}
+use Rattle.nodesets.proofs.mark_one.Statement.{statement}
+use Rattle.nodesets.proofs.mark_one.Tie as tie
 
 rank-of-requires : tie.Need-rank-of-requires
 rank-of-requires c κs = search needs

@@ -9,11 +9,11 @@ use mir.Facts.{toZ-ofZ}
 use mir.Syntax.{w64}
 use lib.Seq.{take-length}
 use Rattle.meaning.specs.Catalogue.{Catalogue}
-use Rattle.marks.specs.declared.Marked.the-variants.{AllNodes}
-use Rattle.marks.specs.Nodes.{FromOne, FromAll}
-use Rattle.marks.proofs.Nodes.{marked-none, marked-more, marked-fails}
-use Rattle.marks.proofs.mark.Statement.{statement}
-use Rattle.marks.proofs.mark.Tie as tie
+use Rattle.nodesets.specs.declared.Marked.the-variants.{AllNodes}
+use Rattle.nodesets.specs.Nodes.{FromOne, FromAll}
+use Rattle.nodesets.proofs.Nodes.{marked-none, marked-more, marked-fails}
+use Rattle.nodesets.proofs.mark.Statement.{statement}
+use Rattle.nodesets.proofs.mark.Tie as tie
 
 abbrev Inv-loop : tie.InvT-loop
 Inv-loop cells rows marks₀ i₀ marks i =
