@@ -16,7 +16,7 @@ use Rattle.meaning.specs.Query.{Query, Read}
 use Rattle.meaning.specs.Meaning.{eval}
 use Rattle.meaning.specs.Plan.{Op, Placed, planRead}
 use Rattle.meaning.specs.Operators.{Table, column, itemsInOrder}
-use Rattle.meaning.specs.Run.{run, Filled, running, runningBy}
+use Rattle.meaning.specs.Run.{run, Filled, running, runningBy, Hand}
 use Rattle.meaning.specs.Translation.{plan}
 use Rattle.meaning.specs.Calls.{lastTable, translateCall}
 use Rattle.meaning.specs.Calls as Calls
@@ -37,8 +37,8 @@ use Rattle.agreement.proofs.Distinct.{distinct-places}
 use Rattle.agreement.proofs.Encoded.{items-encoded}
 use Rattle.agreement.proofs.MachineQueries.{plan-gives, plan-fails, plan-tieless}
 use Rattle.agreement.proofs.Whole.{same-items}
-use Rattle.order.specs.Shuffled.{Permuted, SameWork, bothFull, bothFailed, bothDone}
-use Rattle.order.specs.Order.{OrderFree}
+use Rattle.order.specs.Shuffled.{Permuted, SameWork, bothFull, bothFailed, bothDone, Shuffles}
+use Rattle.order.specs.Order.{Unmoved}
 use Rattle.order.proofs.Ties.{sort-permuted}
 use Rattle.order.proofs.Worlds.{bagged}
 use Rattle.order.proofs.Runs.{shuffled-run, last-permuted}
@@ -94,7 +94,13 @@ items-moved xs t u e d =
 done-same : {x y : Filled} → done x ≡ done y → x ≡ y
 done-same e = cc
 
-pub order-free : OrderFree
+pub order-free :
+    (query doc : List ℕ) → Bytes query → (i : Passed query doc) (lent n m : ℕ)
+    → translateCall query lent .answer ≡ gives (n ∷ m ∷ [])
+    → (ps : List Placed) → planRead (take m (translateCall query lent .left)) ≡ reads ps
+    → (room : ℕ) (hand : Hand) → Shuffles hand
+    → Unmoved (means i) (running (worldOf (i .catalogue)) room ps [] 0)
+    (runningBy hand (worldOf (i .catalogue)) room ps [] 0)
 order-free query doc bytes i lent n m e ps r room hand shuffles =
     record {
       same = work;

@@ -4,9 +4,10 @@ use Rattle.agreement.proofs.Answers.{translate-enough, run-stood, run-failing, 
 use Rattle.agreement.proofs.Enough.{run-enough, run-enough-fails, evaluate-enough, evaluate-enough-fails}
 use Rattle.agreement.proofs.EnginesAgree.{engines-agree}
 use Rattle.agreement.proofs.SixBelow.{run-six, filled-fills, evaluate-six, count-stands}
+use Rattle.order.proofs.OrderTheorem.{order-free}
 use Rattle.printing.proofs.NeverNo.{never-no}
 use Rattle.promises.specs.Promises.{Demand1, Demand2, Demand3, RoomSentence, Contracts, Decides, Demand3InHand}
-use Rattle.promises.specs.Promises.{NeverNo, Engine, ShutOut}
+use Rattle.promises.specs.Promises.{OrderFree, NeverNo, Engine, ShutOut}
 use Rattle.promises.proofs.Refusals.{catalogue-whence, query-whence, translate-whence, run-whence}
 use Rattle.promises.proofs.Refusals.{evaluate-whence}
 use Rattle.promises.proofs.ShutOut.{shut-out}
@@ -42,6 +43,9 @@ demand2 =
 
 pub demand3 : Demand3
 demand3 = engines-agree
+
+pub orderFree : OrderFree
+orderFree = order-free
 
 pub room-sentence : RoomSentence
 room-sentence = record { runner = run-six; filled-is = filled-fills; evaluator = evaluate-six; count-is = count-stands }

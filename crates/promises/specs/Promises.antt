@@ -14,6 +14,7 @@
 --     Decides                 two outcomes that such a contract allows are equal
 --     Demand3InHand           demand 3 of the answers and cells that a caller of translate, run and evaluate has in
 --                             hand
+--     OrderFree               no plan that the translator writes leans on how the rows of its tables stand
 --     NeverNo                 the bytes `same no` stand nowhere in what `chartask` prints
 --     Cells cs                every member is a 64-bit cell
 --     Engine, Keeps call f    an engine; it keeps the contract of a call
@@ -36,7 +37,7 @@ use Rattle.meaning.specs.World.{worldOf}
 use Rattle.meaning.specs.Query.{Read, queryRead}
 use Rattle.meaning.specs.Plan.{Placed, planRead}
 use Rattle.meaning.specs.Operators.{Table}
-use Rattle.meaning.specs.Run.{running}
+use Rattle.meaning.specs.Run.{Hand, running, runningBy}
 use Rattle.meaning.specs.Translation.{plan}
 use Rattle.meaning.specs.Written.{written}
 use Rattle.meaning.specs.Calls.{Answer, gives, refused, Outcome, room, lastTable, runOutcome}
@@ -58,6 +59,8 @@ use Rattle.lines.specs.Printed.{printed}
 use Rattle.promises.specs.Contracts.{CatalogueAllows, QueryAllows, TranslateAllows, RunAllows, EvaluateAllows}
 use Rattle.promises.specs.Contracts.{TellAllows}
 use Rattle.agreement.specs.Passing.{Passed, means, stands, evaluation, PlanPassed, makes, fills, theRun, Refused}
+use Rattle.order.specs.Shuffled.{Shuffles}
+use Rattle.order.specs.Order.{Unmoved}
 use Rattle.agreement.specs.Passing.{Cleared, Stood, Alike, Held, SixBelow}
 
 -- DEMAND 1. Whatever the bytes and whatever is lent: which refusals there are and where each comes from. A refusal
@@ -152,6 +155,19 @@ Demand3 =
     → ¬ (Refused 6 (evaluateCall query doc forEvaluation .answer))
     → Alike (means i) (runCall (take m (translateCall query lent .left)) doc forRun)
     (evaluateCall query doc forEvaluation)
+
+-- ORDER. No plan that the translator writes leans on how the rows of a table stand. Let a hand put the rows of every
+-- table, as it is made, in any order whatever: the run still answers 6 or 7 at the same operator, or fills as many
+-- cells with the same rows in each table; and the items by rising place of its last table are what the query means
+
+abbrev pub OrderFree : Type 0
+OrderFree =
+    (query doc : List ℕ) → Bytes query → (i : Passed query doc) (lent n m : ℕ)
+    → translateCall query lent .answer ≡ gives (n ∷ m ∷ [])
+    → (ps : List Placed) → planRead (take m (translateCall query lent .left)) ≡ reads ps
+    → (room : ℕ) (hand : Hand) → Shuffles hand
+    → Unmoved (means i) (running (worldOf (i .catalogue)) room ps [] 0)
+    (runningBy hand (worldOf (i .catalogue)) room ps [] 0)
 
 -- ROOM. Each engine answers 6 exactly when its count passes the smaller of the lent cells and 65,536 before anything
 -- has failed; with more room its answer is one and the same; and the count that it answers is that count
