@@ -96,7 +96,7 @@ done-same e = cc
 
 pub order-free :
     (query doc : List ℕ) → Bytes query → (i : Passed query doc) (lent n m : ℕ)
-    → translateCall query lent .answer ≡ gives (n ∷ m ∷ [])
+    → translateCall query lent .answer ≡ Calls.gives (n ∷ m ∷ [])
     → (ps : List Placed) → planRead (take m (translateCall query lent .left)) ≡ reads ps
     → (room : ℕ) (hand : Hand) → Shuffles hand
     → Unmoved (means i) (running (worldOf (i .catalogue)) room ps [] 0)
