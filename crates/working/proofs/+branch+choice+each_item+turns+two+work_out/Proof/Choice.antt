@@ -40,7 +40,7 @@ choice-callees t = (
 )
 
 module _ (t : ℕ) where
-  -- where the condition is told, where the function starts, and the condition worked out as the first branch is behind it
+  -- where the condition is told, where the function starts, and where the condition is worked out
   abbrev Told : Type 0
   Told = choice-lts.After-known-told (choice-callees t) (choice-at t) choice.Post
 
@@ -50,7 +50,8 @@ module _ (t : ℕ) where
   abbrev work-out-of :
       choice-lts.After-branch (choice-callees t) (choice-at t) choice.Post →
       choice-lts.After-work-out (choice-callees t) (choice-at t) choice.Post
-  work-out-of c = c .before .before .before .before .before .before .before .before .before .before .before .before .before .before
+  work-out-of c =
+      c .before .before .before .before .before .before .before .before .before .before .before .before .before .before
 
   -- the condition's items stand within the room
   fits :
