@@ -1,6 +1,6 @@
 // The text that the printing program prints, from what the translator and the two engines told.
 mod items;
-mod numbers;
+pub mod numbers;
 
 ghost use mathlib.Core.Path.{_≡_};
 ghost use Prim.Native.Nat.{_+_, _*_, _≤_};

@@ -1,0 +1,37 @@
+-- What the answers of crates/views say of offsets and cells.
+--     number-ahead, cell-ahead           the offset after a field
+--     suited-within, unsuited-within     the offset after a record, and the width of its table
+--     cells-standing                     the cells of a table
+use Prim.Native.Nat.{ℕ, _+_, _≤_, _<_}
+use mathlib.Core.Path.{_≡_, subst}
+use lib.IntN.{ℤ}
+use Rattle.views.specs.declared.records.Seen.{Seen}
+use Rattle.views.specs.declared.records.Seen.the-variants as Seen
+use Rattle.views.specs.declared.records.Field.{Field}
+use Rattle.views.specs.declared.records.Field.the-variants as Field
+use Rattle.views.specs.declared.places.Place.{Place}
+use Rattle.views.specs.declared.places.Place.the-variants.{Cells}
+use Rattle.views.specs.Records.{Within, Ahead}
+use Rattle.views.specs.Places.{Standing}
+
+module _ (from end : ℕ) (f : Field) (next : ℕ) (h : Ahead from end f) where
+  pub number-ahead : (k : ℕ) → f ≡ Field.Number k next → (from < next) × (next ≤ end)
+  unfolding Ahead
+  number-ahead k e = subst (Ahead from end) e h
+
+  pub cell-ahead : (z : ℤ) → f ≡ Field.Cell z next → (from < next) × (next ≤ end)
+  unfolding Ahead
+  cell-ahead z e = subst (Ahead from end) e h
+
+module _ (l at : ℕ) (s : Seen) (next : ℕ) (h : Within l at s) where
+  pub suited-within : (w : ℕ) → s ≡ Seen.Suited next w → (at + 2 ≤ l) × (next ≤ l) × (1 ≤ w) × (w ≤ 6)
+  unfolding Within
+  suited-within w e = subst (Within l at) e h
+
+  pub unsuited-within : s ≡ Seen.Unsuited next → (at + 2 ≤ l) × (next ≤ l)
+  unfolding Within
+  unsuited-within e = subst (Within l at) e h
+
+pub cells-standing : (room : ℕ) (p : Place) (s e : ℕ) → p ≡ Cells s e → Standing room p → (s ≤ e) × (e ≤ room)
+unfolding Standing
+cells-standing room p s e q h = subst (Standing room) q h

@@ -1,0 +1,89 @@
+// The text of a row: its cells in columns of 12 characters, each at the right of its own.
+ghost use mathlib.Core.Path.{_≡_};
+ghost use mathlib.Core.List.{_++_};
+ghost use Prim.Native.Nat.{_+_, _≤_};
+ghost use lib.ListN.{length};
+ghost use Rattle.lines.specs.Text.{decimal, nodeWord};
+ghost use Rattle.lines.specs.Placed.{Put};
+ghost use Rattle.views.specs.Rows.{truthWord, cellText, atRight, column, rowLine};
+use cells::Held;
+use cells::Item;
+use lines::numbers::put_number;
+use lines::numbers::put_signed;
+use lines::numbers::put_word;
+
+// `false` or `true`.
+fn put_truth(text: &mut [u8], at: usize, b: bool) -> usize
+    requires { ⌜ at + 25 ≤ length (now text) ⌝ }
+    ensures { λ r. ⌜ Put (now (text .entry)) (now (text .exit)) at (truthWord b) r × (r ≤ at + 25) ⌝ }
+{
+    if b {
+        put_word(text, at, b"true")
+    } else {
+        put_word(text, at, b"false")
+    }
+}
+
+// `node` and the rank.
+fn put_node(text: &mut [u8], at: usize, rank: usize) -> usize
+    requires { ⌜ at + 25 ≤ length (now text) ⌝ }
+    ensures { λ r. ⌜ Put (now (text .entry)) (now (text .exit)) at (nodeWord ++ decimal rank) r × (r ≤ at + 25) ⌝ }
+{
+    let a = put_word(text, at, b"node ");
+    put_number(text, a, rank)
+}
+
+// An integer as itself, `false`, `true`, or `node` and its rank. Every cell of a table holds an item.
+pub fn put_cell(text: &mut [u8], at: usize, cell: i64) -> usize
+    requires { ⌜ at + 25 ≤ length (now text) ⌝ }
+    ensures { λ r. ⌜ Put (now (text .entry)) (now (text .exit)) at (cellText cell) r × (r ≤ at + 25) ⌝ }
+{
+    let held = cells::item_of(cell);
+    let Held::Item(item) = held else {
+        return at;
+    };
+    match item {
+        Item::Integer(z) => put_signed(text, at, z),
+        Item::Truth(b) => put_truth(text, at, b),
+        Item::Node(r) => put_node(text, at, r.0),
+    }
+}
+
+// A word at the right of its column.
+fn put_right(text: &mut [u8], at: usize, word: &[u8]) -> usize
+    requires { ⌜ at + 12 + length (now word) ≤ length (now text) ⌝ }
+    ensures { λ r. ⌜ Put (now (text .entry)) (now (text .exit)) at (atRight (now (word .entry))) r
+        × (r ≤ at + 12 + length (now (word .entry))) ⌝ }
+{
+    let n = word.len();
+    if 12 <= n {
+        return put_word(text, at, word);
+    }
+    let blank = [32u8; 12];
+    let a = put_word(text, at, &blank[n..12]);
+    put_word(text, a, word)
+}
+
+// A cell in its column.
+fn put_column(text: &mut [u8], at: usize, cell: i64) -> usize
+    requires { ⌜ at + 37 ≤ length (now text) ⌝ }
+    ensures { λ r. ⌜ Put (now (text .entry)) (now (text .exit)) at (column cell) r × (r ≤ at + 37) ⌝ }
+{
+    let mut word = [0u8; 25];
+    let n = put_cell(&mut word, 0, cell);
+    put_right(text, at, &word[0..n])
+}
+
+// The line of a row.
+pub fn put_row(text: &mut [u8], row: &[i64]) -> usize
+    requires { ⌜ (length (now row) ≤ 6) × (223 ≤ length (now text)) ⌝ }
+    ensures { λ r. ⌜ Put (now (text .entry)) (now (text .exit)) 0 (rowLine (now (row .entry))) r ⌝ }
+{
+    let mut end: usize = 0;
+    let mut i: usize = 0;
+    while i < row.len() {
+        end = put_column(text, end, row[i]);
+        i += 1;
+    }
+    put_word(text, end, b"\n")
+}
