@@ -3,3 +3,4 @@ pub mod Bytes
 pub mod Small
 pub mod Arithmetic
 pub mod Codes
+pub mod Limits

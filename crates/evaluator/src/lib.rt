@@ -1,13 +1,11 @@
 // The step-by-step evaluator: the checks, the work of crates/working, and the answer.
+use cells::limits::LEVELS;
 use stack::Stood;
 use working::Scope;
 ghost use mathlib.Core.Path.{_≡_};
 ghost use lib.ListN.{length};
 ghost use Rattle.meaning.specs.Calls.{evaluateCall};
 ghost use Rattle.evaluator.specs.Answers.{answered, refusing, unsounding, concluding, standing};
-
-// Nesting is at most 32.
-const LEVELS: usize = 32;
 
 // The answer: the number of items and their count; or a refusal with its place: 1 to 3 of the query, 4 of the
 // catalogue, 6 and 7 of the work.

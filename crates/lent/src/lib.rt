@@ -1,4 +1,5 @@
 // The cells that a call is lent: how many of them count, and how they are copied and cleared.
+use cells::limits::CELLS;
 ghost use mathlib.Core.Path.{_≡_};
 ghost use Prim.Native.Nat.{_+_, _≤_};
 ghost use lib.IntN.{pos};
@@ -7,14 +8,11 @@ ghost use Rattle.laws.specs.Rows.{row, laid, padded};
 ghost use Rattle.meaning.specs.Calls.{room};
 ghost use Rattle.lent.specs.Apart.{Apart};
 
-// Only the first 65,536 cells of work count.
-const ROOM: usize = 65536;
-
-// The cells that count.
-pub fn room_of(cells: usize) -> usize
-    ensures { λ r. ⌜ r ≡ room cells ⌝ }
+// The cells of work that count.
+pub fn room_of(lent: usize) -> usize
+    ensures { λ r. ⌜ r ≡ room lent ⌝ }
 {
-    if cells < ROOM { cells } else { ROOM }
+    if lent < CELLS { lent } else { CELLS }
 }
 
 // Copies n cells to `to`: down over themselves, or up past themselves.

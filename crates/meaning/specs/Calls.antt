@@ -21,6 +21,7 @@ use mathlib.Core.Bool.{Bool, true, false, cond}
 use lib.Dec.{leb}
 use lib.IntN.{ℤ, pos}
 use lib.ListN.{length, replicate}
+use Rattle.cells.specs.Limits.{mostOperators, mostCells}
 use Rattle.laws.specs.Lists.{gather}
 use Rattle.laws.specs.Rows.{flat, padded}
 use Rattle.laws.specs.Attempt.{Reading, refuses, reads, reading, unless, Work, full, failed, done}
@@ -48,7 +49,7 @@ refusal z lent n p = record { answer = refused n p; left = replicate lent z }
 
 -- only the first 65,536 cells of work count
 unfoldable pub room : ℕ → ℕ
-room lent = min lent 65536
+room lent = min lent mostCells
 
 unfoldable pub catalogueAnswer : Reading Catalogue → Answer
 catalogueAnswer (refuses n p) = refused n p
@@ -67,7 +68,8 @@ queryCall query = queryAnswer (queryRead query)
 -- over 512 operators: 2 at 0; longer than the lent bytes: 8 at 0
 unfoldable pub planOf : ℕ → Query → Reading (List Op)
 planOf lent q =
-    unless (leb (length (plan q)) 512) 2 0 (unless (leb (length (written (plan q))) lent) 8 0 (reads (plan q)))
+    unless (leb (length (plan q)) mostOperators) 2 0
+    (unless (leb (length (written (plan q))) lent) 8 0 (reads (plan q)))
 
 unfoldable pub translateOutcome : ℕ → Reading (List Op) → Outcome ℕ
 translateOutcome lent (refuses n p) = refusal 0 lent n p

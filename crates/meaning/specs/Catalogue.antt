@@ -17,6 +17,7 @@ use lib.Dec.{ltb, leb, eqb}
 use lib.IntN.{ℤ, pos, negsuc}
 use lib.ListN.{length}
 use Rattle.cells.specs.Bytes.{byteAt, word, int4, fits}
+use Rattle.cells.specs.Limits.{mostRows, deepest}
 use Rattle.laws.specs.Attempt.{Reading, refuses, reads, reading, unless}
 
 pub record Catalogue : Type 0 where
@@ -55,7 +56,7 @@ isName (negsuc n) = false
 unfoldable pub ownSound : Catalogue → ℕ → ℕ → Bool
 ownSound c r most =
     leb (c .level r) most
-    && leb (c .level r) 63
+    && leb (c .level r) deepest
     && cond (eqb (c .kind r) element) (isName (c .prop r))
     (eqb (c .kind r) text && eqb (c .size r) 0 && leb 1 (c .level r))
 
@@ -85,4 +86,4 @@ sizesExact c r (suc n) = unless (eqb (c .size r) (deeper c (c .level r) (suc r) 
 
 -- 0 to 2,048 rows; the row checks left to right, then the sizes in row order
 unfoldable pub catalogueRead : List ℕ → Reading Catalogue
-catalogueRead doc = reading (rowsSound 2048 doc 0 0) (λ n. sizesExact (catalogueOf doc n) 0 n)
+catalogueRead doc = reading (rowsSound mostRows doc 0 0) (λ n. sizesExact (catalogueOf doc n) 0 n)

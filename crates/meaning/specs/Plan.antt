@@ -25,6 +25,7 @@ use Rattle.cells.specs.declared.Axis.{Axis}
 use Rattle.cells.specs.declared.Test.{Test}
 use Rattle.meaning.specs.Query.{fragmentOf}
 use Rattle.cells.specs.Codes.{functionOf, axisOf, testOf}
+use Rattle.cells.specs.Limits.{mostOperators}
 
 pub data Op : Type 0 where
   RT : Op  -- one row, one cell, 1
@@ -212,4 +213,4 @@ planFrom (suc left) bs ps at =
 
 -- 1 to 512 operators
 unfoldable pub planRead : List ℕ → Reading (List Placed)
-planRead bs = planFrom 512 bs [] 0
+planRead bs = planFrom mostOperators bs [] 0

@@ -19,6 +19,7 @@ use Rattle.cells.specs.declared.Test.{Test}
 use Rattle.cells.specs.Bytes.{byteAt, word, int4, fits}
 use Rattle.cells.specs.Cell.{falseCell, trueCell}
 use Rattle.cells.specs.Codes.{functionOf, axisOf, testOf}
+use Rattle.cells.specs.Limits.{mostRecords, mostLevels}
 use Rattle.laws.specs.Lists.{any}
 use Rattle.laws.specs.Attempt.{Attempt, fails, gives, attempt, provided, Reading, refuses, reads, reading, refusing}
 use Rattle.laws.specs.Attempt.{unless}
@@ -178,11 +179,11 @@ operands rd vs at n next (step x t) = one (QX at x t) (rd vs n next)
 unfoldable pub read : ℕ → List ℕ → Operand
 read zero bs vs n at = reading (recordAt bs at) (λ r. refuses 2 at)
 read (suc d) bs vs n at =
-    reading (recordAt bs at) (λ r. unless (ltb n 128) 2 at (operands (read d bs) vs at (suc n) (r .1) (r .0)))
+    reading (recordAt bs at) (λ r. unless (ltb n mostRecords) 2 at (operands (read d bs) vs at (suc n) (r .1) (r .0)))
 
 -- bytes after the query: refusal 1 at the first of them
 unfoldable pub queryRead : List ℕ → Reading Read
-queryRead bs = reading (read 32 bs [] 0 0) (λ r. unless (eqb (r .next) (length bs)) 1 (r .next) (reads r))
+queryRead bs = reading (read mostLevels bs [] 0 0) (λ r. unless (eqb (r .next) (length bs)) 1 (r .next) (reads r))
 
 unfoldable pub free : ℕ → Query → Bool
 free v (QL at z) = false

@@ -1,4 +1,5 @@
 // The work of the runner: the tables of a sound plan, laid end to end in the lent cells.
+use cells::limits::ROWS;
 ghost use mathlib.Core.Path.{_≡_};
 ghost use Prim.Native.Nat.{_≤_, _<_};
 ghost use lib.ListN.{length};
@@ -179,8 +180,8 @@ pub fn work_out(plan: &[u8], doc: &[u8], rows: usize, work: &mut [i64]) -> Walke
     let mut directory = [0usize; 1536];
     let mut order = [0u16; 32768];
     let mut aside = [0u16; 16384];
-    let mut from = [false; 2048];
-    let mut to = [false; 2048];
+    let mut from = [false; ROWS];
+    let mut to = [false; ROWS];
     let room = lent::room_of(work.len());
     walk(
         plan,

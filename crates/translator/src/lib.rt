@@ -1,4 +1,6 @@
 // The translator: the query check, the plan that crates/translating writes over lent bytes, and the answer.
+use cells::limits::LEVELS;
+use cells::limits::OPERATORS;
 use queries::Checked;
 use rules::Operator;
 use rules::Pen;
@@ -6,12 +8,6 @@ ghost use mathlib.Core.Path.{_≡_};
 ghost use lib.ListN.{length};
 ghost use Rattle.meaning.specs.Calls.{translateCall};
 ghost use Rattle.translator.specs.Answers.{answered, Hands, Whole, Concludes};
-
-// Nesting is at most 32.
-const LEVELS: usize = 32;
-
-// A plan has at most 512 operators.
-const OPERATORS: usize = 512;
 
 // The answer of the translator, with the place of a refusal.
 pub enum Translated {

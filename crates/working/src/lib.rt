@@ -1,6 +1,7 @@
 // The work of the evaluator: a query worked out record by record, its items on one stack of lent cells.
 use cells::Axis;
 use cells::Test;
+use cells::limits::ROWS;
 use items::Judged;
 use query_records::Reading;
 use query_records::Record;
@@ -94,8 +95,8 @@ fn step(
         (stood (now (work .entry)) top operand))
         (Ends operand) (now (work .entry)) (now (work .exit)) r ⌝ }
 {
-    let mut from = [false; 2048];
-    let mut to = [false; 2048];
+    let mut from = [false; ROWS];
+    let mut to = [false; ROWS];
     stack::step(
         doc,
         rows,
