@@ -8,8 +8,9 @@ Each operator has a heading: its number, the byte offset of its record, its mark
 record. Below it stands its table, a line a row, each cell at the right of 12 characters; `no rows` where it is empty,
 `no table` where the operators up to it do not run in chartask's 8,192 cells. The last line is the run's answer.
 
-After refusal 5, 6 or 7 the operator at the place is the last one shown; 5 comes before any work, so the tables there are
-those of the operators up to each. After refusal 4 no operator is shown, nor after a refusal of the translator.
+After refusal 5, 6 or 7 the operator at the place is the last one shown. 5 comes before any work, so the tables shown
+there are those that the operators up to each make by themselves. After refusal 4 no operator is shown, nor after a
+refusal of the translator.
 
 A case is a byte (1 tables, 2 plan), the query or the plan, and the catalogue; a byte string has its length (2 bytes)
 before it. Of each case `case n` is printed, counted from 1, and then the text.
@@ -18,7 +19,6 @@ before it. Of each case `case n` is printed, counted from 1, and then the text.
 import pathlib
 import random
 import sys
-from itertools import islice
 
 sys.dont_write_bytecode = True
 
@@ -28,7 +28,6 @@ import examples
 import generate
 import plan
 import runner
-import some_catalogues
 import some_plans
 import some_queries
 import stored
@@ -36,7 +35,6 @@ import translator
 from cells import TRUE, Refused, is_integer, is_node, rank
 from chartask import DOC_BYTES, PLAN_BYTES, QUERY_BYTES, WORK_CELLS
 from query import sound_fragment, sound_step
-from rooms import plan_of
 
 OWN_PLAN_BYTES = 8192
 COLUMN = 12

@@ -1,5 +1,5 @@
-// Arithmetic, values, roots and truth of cells (document 01, 'Query records'). The plan's operators and the evaluator both
-// stand on these.
+// Arithmetic, values, roots and truth of cells (document 01, 'Query records'). The plan's operators and the evaluator
+// both stand on these.
 use cells::Function;
 use cells::Held;
 use cells::Item;
@@ -150,7 +150,8 @@ fn truth_from(item: Item, alone: bool) -> Judged
     }
 }
 
-// Truth of a condition's items: none is false, a node in front is true, one boolean is itself, one integer is true unless 0.
+// Truth of a condition's items: none is false, a node in front is true, one boolean is itself, one integer is true
+// unless 0.
 pub fn truth(items: &[i64]) -> Judged
     ensures { λ j. ⌜ Answers.judged j ≡ World.truth (now (items .entry)) ⌝ }
 {
