@@ -27,9 +27,9 @@ class Group(NamedTuple):
 
 
 GROUPS = [
-    Group("laws and cells", "ground", "laws cells pen", "specs",
+    Group("laws and cells", "ground", "laws cells", "specs",
           (("sort", "lists, sorting, joins, rows: nothing of queries"), ("held", "items and the cells that hold them"))),
-    Group("the definitions: what a reader believes", "definitions", "meaning answers", "specs",
+    Group("the definitions: what a reader believes", "definitions", "meaning", "specs",
           (("queryRead catalogueRead planRead", "bytes to a query, a catalogue, a plan; the refusals"),
            ("eval", "what a query means"), ("plan", "a query to a plan, rule by rule"),
            ("make run", "what an operator makes, what a plan makes"),
@@ -44,28 +44,31 @@ GROUPS = [
     Group("a run agrees with what the query means", "theorems", "agreement order", "proofs",
           (("agreement", "every turn's rows hold what the query means"),
            ("simulates", "operators by number do what the rules say"),
-           ("same-run-read", "a plan's run and the query's meaning agree"))),
+           ("same-run-read", "a plan's run and the query's meaning agree"),
+           ("order-free", "rows may stand in any order"))),
     Group("the checks", "code", "catalogue query_records query_walks queries plan_records plans", "specs",
           (("answered", "their contracts: catalogueCall, queryCall"),)),
-    Group("items, steps, the stack", "code", "items marks axes steps stack", "specs", ()),
-    Group("the operators", "code", "tables rowwise values whole numbering joining members groups", "specs",
+    Group("items, steps, the stack", "code", "items nodesets axes lent stack", "specs", ()),
+    Group("the operators", "code", "tables rows rowwise whole joining sorting numbering members stepping groups", "specs",
           (("Owes", "one promise for each operator"),)),
     Group("the translator", "code", "writing rules translating translator", "specs",
           (("answered", "its contract: translateCall"),)),
     Group("the evaluator", "code", "working evaluator", "specs", (("answered", "its contract: evaluateCall"),)),
     Group("the runner", "code", "directory operators running runner", "specs", (("answered", "its contract: runCall"),)),
-    Group("the printed text", "programs", "told telling lines printing chartask showing", "specs",
+    Group("the printed text", "programs", "lines printing chartask views showing", "specs",
           (("printed", "the lines of chartask, proved"),)),
     Group("stored cases: run and compared, not proved", "programs",
-          "cases vectors evaluations translations runs tellings stored", "", ()),
+          "cases stored", "", ()),
 ]
 
-# Theorems on the definitions stand partly beside them, in the same crate; the one page of promises in a crate of theorems.
-PROMISES = Group("what is promised, on one page", "promises", "agreement", "specs",
-                 (("Demand1", "a refused call leaves zeros"), ("Demand2", "answers are what the definitions say"),
+# The marked examples stand beside the definitions, in the same crate. The page of promises stands on everything: one arrow says so.
+PROMISES = Group("what is promised, on one page", "promises", "promises", "specs",
+                 (("Demand1", "which refusals there are; each leaves zeros"), ("Demand2", "answers are what the definitions say"),
                   ("Demand3", "run and evaluation agree, or both fail"),
                   ("Demand3InHand", "the same, for whoever calls the code"),
                   ("RoomSentence", "6 exactly where the room is too small"),
+                  ("OrderFree", "no plan leans on how rows stand"), ("NeverNo", "chartask never prints `same no`"),
+                  ("Contracts", "what each call's own text tells a caller"),
                   ("Decides", "a contract leaves no choice"), ("ShutOut", "engines that keep no contract")))
 
 ALSO = [(GROUPS[1].name, GROUPS[2].name), (GROUPS[2].name, GROUPS[3].name), (GROUPS[3].name, PROMISES.name)]
@@ -96,6 +99,7 @@ def group_of():
 def arrows(below):
     """(lower, upper) for each group that stands on another, but for those that follow from others."""
     groups = group_of()
+    below = {crate: its for crate, its in below.items() if crate not in PROMISES.crates.split()}
     for crate in below:
         if crate not in groups:
             raise Unknown(f"crates.txt lists {crate}, and no group of reference/proofs_drawing.py has it")
@@ -146,7 +150,7 @@ class Box:
         """Its crates, in the order of crates.txt."""
         crates = [crate for crate in listed if crate in self.group.crates.split()]
         its = " ".join(crates + ["meaning"] if self.group is GROUPS[2] else crates)
-        return {"promises": "agreement: specs/Promises.antt", "definitions": f"{its}: specs/",
+        return {"promises": "promises: specs/Promises.antt", "definitions": f"{its}: specs/",
                 "theorems": f"{its}: proofs/"}.get(self.group.kind, its)
 
     def shown(self, names, says):
