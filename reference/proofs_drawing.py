@@ -55,10 +55,10 @@ GROUPS = [
           (("answered", "its contract: translateCall"),)),
     Group("the evaluator", "code", "working evaluator", "specs", (("answered", "its contract: evaluateCall"),)),
     Group("the runner", "code", "directory operators running runner", "specs", (("answered", "its contract: runCall"),)),
-    Group("the printed text", "programs", "lines printing chartask views showing", "specs",
+    Group("the printed text", "programs", "lines printing chartask cases views showing", "specs",
           (("printed", "the lines of chartask, proved"),)),
     Group("stored cases: run and compared, not proved", "programs",
-          "cases stored", "", ()),
+          "stored", "", ()),
 ]
 
 # The marked examples stand beside the definitions, in the same crate. The page of promises stands on everything: one arrow says so.
