@@ -15,9 +15,8 @@ use Prim.Native.Nat.{ℕ, suc}
 use mathlib.Core.Path.{_≡_, refl, sym, ap, ap₂, _∙_}
 use mathlib.Core.List.{List, [], _∷_, _++_, map}
 use mathlib.Core.Bool.{Bool, true, not, cond, and-true}
-use borrow.Author.Tests.{eq-eqb}
 use lib.Dec.{eqb}
-use lib.IntN.{ℤ, pos, negsuc}
+use lib.IntN.{ℤ, pos}
 use lib.ListN.{length, length-map}
 use Rattle.cells.specs.Cell.{same, trueCell, truthCell}
 use Rattle.cells.specs.declared.Axis.{Axis}
@@ -36,6 +35,7 @@ use Rattle.agreement.specs.Encoded.{encode, encodeNumber, encodeCell, en
 use Rattle.agreement.specs.Encoded.{encodeChoice}
 use Rattle.agreement.proofs.EncodedLists.{mapped, mapped-once, filter-through, any-through}
 use Rattle.laws.proofs.Booleans.{or-right}
+use Rattle.cells.proofs.Cells.{same-refl}
 use Rattle.agreement.proofs.EncodedLists.{count-through}
 use Rattle.agreement.proofs.EncodedLists.{firsts-through, gather-through, sort-through, each-through}
 
@@ -49,16 +49,10 @@ module _ {A : Type 0} (f : A → Row) where
   unfolding project
   project-encoded cs t = mapped-once _ f _ (λ r. refl) t
 
--- a row is equal to itself
-same-self : (z : ℤ) → same z z ≡ true
-unfolding same
-same-self (pos n) = eq-eqb n n refl
-same-self (negsuc n) = eq-eqb n n refl
-
 pub sameRow-self : (r : Row) → sameRow r r ≡ true
 unfolding sameRow
 sameRow-self [] = refl
-sameRow-self (z ∷ r) = rw (same-self z, sameRow-self r)
+sameRow-self (z ∷ r) = rw (same-refl z, sameRow-self r)
 
 -- every row of t stands in u
 minus-inside : (t u : Table) → ((r : Row) → any (sameRow r) t ≡ true → any (sameRow r) u ≡ true) → minus t u ≡ []

@@ -10,6 +10,7 @@ use mathlib.Core.Bool.{Bool, true, false, not, cond}
 use Rattle.laws.specs.Lists.{filter, any, count, gather, firsts}
 use Rattle.laws.specs.Sorting.{insert, sort}
 use Rattle.laws.specs.Attempt.{Attempt, fails, gives, attempt, each}
+use Rattle.laws.proofs.Filters.{map-append}
 
 module _ {A B : Type 0} (f : A → B) where
   map-cond : (b : Bool) (x : A) (xs : List A) → cond b (f x ∷ map f xs) (map f xs) ≡ map f (cond b (x ∷ xs) xs)
@@ -66,11 +67,6 @@ module _ {A B C : Type 0} where
       → (xs : List A) → map g (map f xs) ≡ map h xs
   mapped-once g f h e [] = refl
   mapped-once g f h e (x ∷ xs) = ap₂ _∷_ (e x) (mapped-once g f h e xs)
-
-module _ {A B : Type 0} where
-  pub map-append : (f : A → B) (xs ys : List A) → map f (xs ++ ys) ≡ map f xs ++ map f ys
-  map-append f [] ys = refl
-  map-append f (x ∷ xs) ys = ap (λ (r : List B). f x ∷ r) (map-append f xs ys)
 
 module _ {A B C D : Type 0} (f : A → C) (g : B → D) where
   pub gather-through : (p : C → List D) (q : A → List B) → ((x : A) → p (f x) ≡ map g (q x))

@@ -25,7 +25,7 @@ use Rattle.agreement.specs.Encoded.{encode, encodeNumber, encodeCell, en
 use Rattle.agreement.specs.Encoded.{encodeChoice, Has, HasRows, HasLoop}
 use Rattle.agreement.specs.Tieless.{alike, Untied, Distinct, orderedBy}
 use Rattle.agreement.specs.Machine.{Simulates}
-use Rattle.agreement.proofs.EncodedLists.{map-append}
+use Rattle.laws.proofs.Filters.{map-append}
 use Rattle.agreement.proofs.Encoded.{attach-encoded, project-encoded, minus-self, minus-encoded, select-encoded}
 use Rattle.agreement.proofs.Encoded.{join-encoded, number-encoded, added-encoded, numbers-encoded}
 use Rattle.agreement.proofs.Encoded.{counts-encoded, truths-encoded, once-encoded, steps-encoded}

@@ -9,7 +9,7 @@
 --     heads, tails, no-cons    equal lists taken apart
 use mathlib.Core.Path.{_≡_, refl, sym, ap, _∙_, subst}
 use mathlib.Core.Logic.{inl, inr}
-use mathlib.Core.List.{List, [], _∷_, _++_, map}
+use mathlib.Core.List.{List, [], _∷_, _++_, map, append-assoc}
 use mathlib.Core.Bool.{Bool, true, false, cond, true≢false}
 use lib.ListN.{length}
 use Rattle.laws.specs.Lists.{filter, count, gather, All, In}
@@ -181,3 +181,9 @@ in-map f (y ∷ ys) x (inr i) = inr (in-map f ys x i)
 
 pub in-none : {A P : Type 0} (x : A) (xs : List A) → xs ≡ [] → In x xs → P
 in-none x xs e i = absurd (subst (In x) e i)
+
+pub gather-append : {A B : Type 0} (f : A → List B) (xs ys : List A) → gather f (xs ++ ys) ≡ gather f xs ++ gather f ys
+unfolding gather
+gather-append f [] ys = refl
+gather-append f (x ∷ xs) ys =
+    ap (f x ++_) (gather-append f xs ys) ∙ sym (append-assoc (f x) (gather f xs) (gather f ys))

@@ -59,7 +59,7 @@ module _ {A : Type 0} where
       ∙ take-take n at xs h
 
   -- a row is the end of the cells up to its own end
-  row-take : (xs : List A) (a w : ℕ) → row xs a w ≡ drop a (take (a + w) xs)
+  pub row-take : (xs : List A) (a w : ℕ) → row xs a w ≡ drop a (take (a + w) xs)
   unfolding row
   row-take [] a w = simp (drop-nil, take-nil)
   row-take (x ∷ xs) zero w = rw zero-add

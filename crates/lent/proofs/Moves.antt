@@ -6,27 +6,20 @@
 --     copied-on                one member more, copied down over itself or up past itself
 --     laid-zeros               one zero more
 --     padded-zeros             zeros laid to the end
-use Prim.Native.Nat.{ℕ, zero, suc, _+_, _-_, _≤_, _<_}
+use Prim.Native.Nat.{ℕ, _+_, _-_, _≤_, _<_}
 use mathlib.Core.Path.{_≡_, sym, ap, _∙_}
 use mathlib.Core.Logic.{_⊎_, ⊎-elim}
 use mathlib.Core.List.{List, [], _∷_, _++_, append-assoc, append-nil}
 use native.Mathlib.Omega.{arith}
 use native.Mathlib.Numerals.{add-one}
-use native.Mathlib.Nat.{zero-add, suc-add}
 use lib.ListN.{length, take, drop, getD, set, replicate, length-append, length-replicate, replicate-append-replicate}
 use lib.ListN.{drop-of-length-le}
-use lib.Seq.{drop-at, take-append-seam, length-take-le, getD-drop, take-take, take-nil, drop-nil}
+use lib.Seq.{drop-at, take-append-seam, length-take-le, getD-drop, take-take}
 use Rattle.laws.specs.Rows.{row, laid, padded}
 use Rattle.laws.proofs.Rows.{getD-laid, length-row, row-suc, set-more}
+use Rattle.laws.proofs.Rows.{row-take}
 
 module _ {A : Type 0} where
-  -- a row is the end of the members up to its own end
-  row-take : (xs : List A) (a w : ℕ) → row xs a w ≡ drop a (take (a + w) xs)
-  unfolding row
-  row-take [] a w = simp (drop-nil, take-nil)
-  row-take (x ∷ xs) zero w = rw zero-add
-  row-take (x ∷ xs) (suc a) w = rw suc-add (row-take xs a w)
-
   -- a part of a slice is a row
   pub part-row : (xs : List A) (a w : ℕ) → take (a + w - a) (drop a xs) ≡ row xs a w
   unfolding row

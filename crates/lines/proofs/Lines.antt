@@ -7,7 +7,7 @@
 --     text-room                    .. where the runner had no room
 use Prim.Native.Nat.{ℕ, _+_, _*_, _<_}
 use mathlib.Core.Path.{_≡_, refl, sym, ap, _∙_}
-use mathlib.Core.List.{List, [], _∷_, _++_, append-nil, append-assoc}
+use mathlib.Core.List.{List, [], _∷_, _++_, append-nil}
 use mathlib.Core.Bool.{Bool, true}
 use native.Mathlib.Numerals.{add-one}
 use lib.IntN.{ℤ, pos}
@@ -20,6 +20,7 @@ use Rattle.cells.specs.declared.Item.the-variants.{Integer, Truth, Node}
 use Rattle.cells.specs.declared.Held.{Held}
 use Rattle.cells.specs.declared.Held.the-variants as Held
 use Rattle.laws.specs.Lists.{gather}
+use Rattle.laws.proofs.Filters.{gather-append}
 use Rattle.lines.specs.declared.Told.{Told}
 use Rattle.lines.specs.declared.Told.the-variants.{Gave, Refused}
 use Rattle.lines.specs.declared.Verdict.{Verdict}
@@ -49,13 +50,6 @@ module _ (cell v : ℤ) (h : Held) (e : v ≡ cell) (d : h ≡ held v) where
     pub line-node : (r : Rank) → i ≡ Node r → nodeLine (r .0) ≡ itemLine cell
     unfolding heldLine
     line-node r g = sym (ap heldLine (f ∙ ap Held.Item g)) ∙ of-held
-
--- the lines of the items
-gather-append : {A B : Type 0} (f : A → List B) (xs ys : List A) → gather f (xs ++ ys) ≡ gather f xs ++ gather f ys
-unfolding gather
-gather-append f [] ys = refl
-gather-append f (x ∷ xs) ys =
-    ap (f x ++_) (gather-append f xs ys) ∙ sym (append-assoc (f x) (gather f xs) (gather f ys))
 
 pub lines-more : (cells : List ℤ) (i : ℕ) (z : ℤ) → z ≡ getD cells i (pos 0) → i < length cells
     → gather itemLine (take i cells) ++ itemLine z ≡ gather itemLine (take (i + 1) cells)

@@ -17,6 +17,7 @@ use Rattle.cells.specs.declared.Item.the-variants.{Integer, Truth, Node}
 use Rattle.cells.specs.declared.Held.{Held}
 use Rattle.cells.specs.declared.Held.the-variants as Held
 use Rattle.laws.specs.Lists.{gather}
+use Rattle.laws.proofs.Booleans.{or-right}
 use Rattle.lines.specs.declared.Told.{Told}
 use Rattle.lines.specs.declared.Told.the-variants.{Gave, Refused}
 use Rattle.lines.specs.declared.Verdict.{Verdict}
@@ -46,15 +47,11 @@ unfolding holds
 starts-holds w [] e = e
 starts-holds w (d ∷ t) e = rw e
 
-or-true : (a b : Bool) → b ≡ true → (a || b) ≡ true
-or-true true b e = refl
-or-true false b e = e
-
 holds-inside : (w before after : Text) → holds w (before ++ (w ++ after)) ≡ true
 unfolding holds
 holds-inside w [] after = starts-holds w (w ++ after) (starts-itself w after)
 holds-inside w (d ∷ before) after =
-    or-true (starts w (d ∷ (before ++ (w ++ after)))) _ (holds-inside w before after)
+    or-right (starts w (d ∷ (before ++ (w ++ after)))) _ (holds-inside w before after)
 
 nowhere : (w t : Text) → holds w t ≡ false → Nowhere w t
 nowhere w t e before after d = false≢true (sym e ∙ ap (holds w) d ∙ holds-inside w before after)

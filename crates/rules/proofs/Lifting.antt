@@ -9,7 +9,7 @@
 --     hold-holds                   the row of eight with another table
 --     flagged-free, flagged-others the flags of free variables give the variables that are to be lifted
 --     lifts-rule                   what `lift` leaves, over the tables that the row of eight holds
-use Prim.Native.Nat.{ℕ, zero, suc, _+_, _≤_, _<_}
+use Prim.Native.Nat.{ℕ, suc, _+_, _≤_, _<_}
 use mathlib.Core.Path.{_≡_, refl, sym, ap, ap₂, _∙_, subst}
 use mathlib.Core.Bool.{Bool, false, not, cond, _&&_}
 use mathlib.Core.List.{List, [], _∷_, _++_, append-nil}
@@ -18,13 +18,14 @@ use native.Mathlib.Numerals.{add-one}
 use native.Mathlib.Decide.{ℕ-discrete}
 use borrow.Author.Tests.{eq-eqb, ne-eqb}
 use lib.Dec.{eqb}
-use lib.ListN.{length, getD, set, length-append}
+use lib.ListN.{length, getD, set}
 use lib.Seq.{getD-set-same, getD-set-other}
 use Rattle.laws.specs.Lists.{filter, below}
 use Rattle.laws.specs.Lists.{All}
 use Rattle.laws.proofs.Lists.{all-map, all-below, all-kept}
 use Rattle.laws.proofs.Filters.{filter-append, filter-same}
 use Rattle.laws.proofs.Booleans.{by-cases}
+use Rattle.laws.proofs.Lists.{length-below}
 use Rattle.meaning.specs.Plan.{Op, RJ, RP}
 use Rattle.meaning.specs.Query.{Query, free}
 use Rattle.meaning.specs.Translation.{Tables, hold, lifts, lifted, freeIn, othersIn}
@@ -170,11 +171,6 @@ module _
       (by-cases (getD fs v false)
       (λ b. rw b (more-yes (rw b at one)))
       (λ b. rw b (more-no (rw b at one))))
-
-length-below : (n : ℕ) → length (below n) ≡ n
-unfolding below
-length-below zero = refl
-length-below (suc n) = simp length-append (omega (arith, length-below n))
 
 pub lifts-room :
     (ts : List ℕ) (m : ℕ) (cs : List ℕ) (fs : List Bool) (v : ℕ) (x y : List ℕ) (p : Pen) (a : Lifted) →

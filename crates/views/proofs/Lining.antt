@@ -4,8 +4,8 @@
 --     column-is, taken-short      a cell's word, put into bytes of its own
 --     columns-more, row-whole     one cell more; the whole row
 use Prim.Native.Nat.{ℕ, _+_, _-_, _≤_, _<_}
-use mathlib.Core.Path.{_≡_, refl, sym, ap, _∙_}
-use mathlib.Core.List.{List, [], _∷_, _++_, append-nil, append-assoc}
+use mathlib.Core.Path.{_≡_, sym, ap, _∙_}
+use mathlib.Core.List.{List, [], _∷_, _++_, append-nil}
 use mathlib.Core.Bool.{Bool}
 use native.Mathlib.Omega.{arith}
 use native.Mathlib.Numerals.{add-one}
@@ -19,6 +19,7 @@ use Rattle.cells.specs.declared.Item.the-variants.{Integer, Truth, Node}
 use Rattle.cells.specs.declared.Held.{Held}
 use Rattle.cells.specs.declared.Held.the-variants as Held
 use Rattle.laws.specs.Lists.{gather}
+use Rattle.laws.proofs.Filters.{gather-append}
 use Rattle.lines.specs.Text.{decimal, signed, nodeWord, lineEnd}
 use Rattle.lines.specs.Placed.{Put}
 use Rattle.lines.proofs.Putting.{put-text}
@@ -68,13 +69,6 @@ pub column-is : (xs ys : List ℕ) (k n : ℕ) (v z : ℤ) → Put xs ys 0 (cell
 unfolding column
 column-is xs ys k n v z p e f =
     ap atRight (ap (λ (j : ℕ). take j ys) f ∙ put-text xs ys (cellText v) n p ∙ ap cellText e)
-
--- the cells of a row
-gather-append : {A B : Type 0} (f : A → List B) (xs ys : List A) → gather f (xs ++ ys) ≡ gather f xs ++ gather f ys
-unfolding gather
-gather-append f [] ys = refl
-gather-append f (x ∷ xs) ys =
-    ap (f x ++_) (gather-append f xs ys) ∙ sym (append-assoc (f x) (gather f xs) (gather f ys))
 
 pub columns-more : (cells : List ℤ) (i : ℕ) (z : ℤ) → z ≡ getD cells i (pos 0) → i < length cells
     → gather column (take i cells) ++ column z ≡ gather column (take (i + 1) cells)
