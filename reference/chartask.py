@@ -45,6 +45,8 @@ def lines(doc, query):
     if translated.refusal:
         return [f"refused {translated.refusal} at {translated.place}"]
     ran = runner.run(translated.lent[:translated.plan_bytes], doc, WORK_CELLS)
+    if ran.refusal == 6:  # the text is decided, and evaluating could take for ever
+        return first_lines(ran) + ["same room"]
     evaluated = evaluator.evaluate(query, doc, WORK_CELLS)
     return first_lines(ran) + [f"same {same(ran, evaluated)}"]
 

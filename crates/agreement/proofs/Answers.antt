@@ -38,9 +38,12 @@ use Rattle.theorems.proofs.Counts.{counts}
 use Rattle.theorems.proofs.Counted.{evaluate-done, evaluate-failed, running-done, running-failed, running-fits}
 use Rattle.agreement.specs.Passing.{Passed, PlanPassed, means, evaluation, makes, theRun, Refused, Cleared}
 use Rattle.agreement.specs.Passing.{Stood}
-use Rattle.agreement.proofs.RowWidths.{RowsOf, Widths, widthsOf, LastThree, read-sound, flat-wide, flat-last}
-use Rattle.agreement.proofs.RowWidths.{last-wide, Laid, running-laid}
-use Rattle.agreement.proofs.EngineCalls.{ended, evaluated, ran, evaluate-ended, run-ended, gives-refused}
+use Rattle.agreement.proofs.RowWidths.{read-sound, flat-wide, flat-last}
+use Rattle.theorems.specs.PlanRead.{widthsOf}
+use Rattle.agreement.specs.RowWidths.{RowsOf, Widths, LastThree, TablesLaid}
+use Rattle.agreement.proofs.RowWidths.{last-wide, running-laid}
+use Rattle.agreement.proofs.EngineCalls.{evaluate-ended, run-ended, gives-refused}
+use Rattle.agreement.specs.EngineCalls.{ended, evaluated, ran}
 use Rattle.agreement.proofs.EngineCalls.{evaluated-plain, ran-plain, ended-zeroed, ended-long, ended-seven}
 use Rattle.agreement.proofs.EngineCalls.{ended-gives, length-padded, rows-flat}
 
@@ -80,7 +83,7 @@ pub laid-stood : (bytes : List ℕ) (ps : List Placed) (w : World) (lent : ℕ) 
 unfolding ran padded
 laid-stood bytes ps w lent f e d =
     let (sound, three) = read-sound bytes ps e in
-    let laid : Laid (widthsOf ps) f = running-laid w (room lent) ps f sound d in
+    let laid : TablesLaid (widthsOf ps) f = running-laid w (room lent) ps f sound d in
     let last : Table = lastTable (f .tables) in
     let wide : RowsOf 3 last = last-three ps (f .tables) three (laid .widths) in
     let (front, split) = flat-last (f .tables) in
@@ -134,7 +137,7 @@ ran-long : (bytes : List ℕ) (ps : List Placed) (lent : ℕ) (w : World) (f : F
     → running w (room lent) ps [] 0 ≡ done f → length (ran lent f .left) ≡ lent
 unfolding ran
 ran-long bytes ps lent w f e d =
-    let laid : Laid (widthsOf ps) f = running-laid w (room lent) ps f (read-sound bytes ps e .0) d in
+    let laid : TablesLaid (widthsOf ps) f = running-laid w (room lent) ps f (read-sound bytes ps e .0) d in
     length-padded (pos 0) lent (gather flat (f .tables))
     (omega (arith, laid .cells, running-fits w (room lent) ps [] 0 f (omega arith) d, room-lent lent))
 

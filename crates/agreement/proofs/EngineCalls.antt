@@ -1,8 +1,5 @@
 -- The calls of both engines end in one way: a refusal as it was met, 6 or 7 at the record at work, or what is done.
---     ended f lent m          how work m ends, where f says what is left when it is done
---     evaluated, ran          .. what the evaluator and the runner leave when they are done
 --     evaluate-ended, run-ended     the outcomes of both calls are of this form
---     Plain f                 what is done is no refusal
 --     ended-..                what an answer says of the work, and the other way
 --     padded-.., rows-flat    cells and zeros behind them; rows of one width laid end to end
 use Prim.Native.Nat.{ℕ, _+_, _-_, _*_, _≤_}
@@ -22,25 +19,8 @@ use Rattle.meaning.specs.Calls.{gives, refused, Outcome, refusal, lastTable, ru
 use Rattle.meaning.specs.Calls.{evaluateOutcome}
 use Rattle.theorems.specs.Counts.{Full}
 use Rattle.agreement.specs.Passing.{Refused}
-use Rattle.agreement.proofs.RowWidths.{RowsOf}
-
-unfoldable pub ended : {A : Type 0} → (A → Outcome ℤ) → ℕ → Reading (Work A) → Outcome ℤ
-ended f lent (refuses n p) = refusal (pos 0) lent n p
-ended f lent (reads (full p)) = refusal (pos 0) lent 6 p
-ended f lent (reads (failed p)) = refusal (pos 0) lent 7 p
-ended f lent (reads (done x)) = f x
-
-unfoldable pub evaluated : ℕ → Standing → Outcome ℤ
-evaluated lent s =
-    record { answer = gives (length (s .items) ∷ s .count ∷ []); left = padded (pos 0) lent (s .items) }
-
-unfoldable pub ran : ℕ → Filled → Outcome ℤ
-ran lent f =
-    let rows = length (lastTable (f .tables)) in
-    record {
-      answer = gives ((f .filled - rows * 3) ∷ rows ∷ f .filled ∷ []);
-      left = padded (pos 0) lent (gather flat (f .tables));
-    }
+use Rattle.agreement.specs.RowWidths.{RowsOf}
+use Rattle.agreement.specs.EngineCalls.{ended, evaluated, ran, Plain, Settled, failing, finished}
 
 pub evaluate-ended : (lent : ℕ) (m : Reading (Work Standing)) → evaluateOutcome lent m ≡ ended (evaluated lent) lent m
 unfolding evaluateOutcome ended evaluated
@@ -63,10 +43,6 @@ gives-refused ns n p e = let z : _≡_ {A = ℕ} 0 1 = cc in absurd (omega arith
 
 pub numbers-same : {n m p q : ℕ} → refused n p ≡ refused m q → n ≡ m
 numbers-same e = cc
-
--- what is done is no refusal
-abbrev pub Plain : {A : Type 0} → (A → Outcome ℤ) → Type 0
-Plain {A} f = (x : A) → (ns : List ℕ) × (f x .answer ≡ gives ns)
 
 pub evaluated-plain : (lent : ℕ) → Plain (evaluated lent)
 unfolding evaluated
@@ -118,11 +94,6 @@ module _ {A : Type 0} (f : A → Outcome ℤ) (plain : Plain f) (lent : ℕ) whe
   ended-gives (full q) ns e = gives-refused ns 6 q (sym e)
   ended-gives (failed q) ns e = gives-refused ns 7 q (sym e)
   ended-gives (done x) ns e = (x, refl, e)
-
--- work that does not answer 6
-pub data Settled {A : Type 0} (m : Work A) : Type 0 where
-  failing : (p : ℕ) → m ≡ failed p → Settled m
-  finished : (x : A) → m ≡ done x → Settled m
 
 pub settles : {A : Type 0} (f : A → Outcome ℤ) → Plain f → (lent : ℕ) (m : Work A)
     → ¬ (Refused 6 (ended f lent (reads m) .answer)) → Settled m

@@ -31,8 +31,9 @@ use Rattle.agreement.specs.Passing.{Passed, PlanPassed, means, evaluatio
 use Rattle.cells.specs.Bytes.{Bytes}
 use Rattle.agreement.specs.Passing.{itemsAt, Alike, bothFail, bothGive, Held}
 use Rattle.agreement.proofs.MachineAgreement.{same-run-read}
-use Rattle.agreement.proofs.EngineCalls.{ended, evaluated, ran, evaluated-plain, ran-plain, Settled, failing}
-use Rattle.agreement.proofs.EngineCalls.{finished, settles, gives-refused, take-padded}
+use Rattle.agreement.proofs.EngineCalls.{evaluated-plain, ran-plain}
+use Rattle.agreement.specs.EngineCalls.{ended, evaluated, ran, Settled, failing, finished}
+use Rattle.agreement.proofs.EngineCalls.{settles, gives-refused, take-padded}
 use Rattle.agreement.proofs.Answers.{evaluate-at, evaluate-is, run-at, run-is}
 use Rattle.agreement.proofs.Answers.{laid-stood, answer-of}
 

@@ -17,7 +17,7 @@ use Rattle.theorems.proofs.Counted.{evaluate-done, evaluate-failed, running-don
 use Rattle.agreement.specs.Passing.{Passed, PlanPassed, means, stands, evaluation, makes, fills, theRun, Refused}
 use Rattle.agreement.specs.Passing.{Stood}
 use Rattle.agreement.proofs.Room.{standing-count, filling-filled}
-use Rattle.agreement.proofs.EngineCalls.{evaluated, ran, Settled, failing, finished}
+use Rattle.agreement.specs.EngineCalls.{evaluated, ran, Settled, failing, finished}
 use Rattle.agreement.proofs.Answers.{evaluate-is, run-is, laid-stood, answer-of}
 use Rattle.agreement.proofs.SixBelow.{run-six, evaluate-six}
 use Rattle.agreement.proofs.EnginesAgree.{run-settled, run-seven, evaluation-settled, evaluation-seven}

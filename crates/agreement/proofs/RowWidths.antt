@@ -1,11 +1,7 @@
 -- Every table of a run has rows of the width that the plan's check worked out: cells filled are the tables' cells.
---     RowsOf w t             every row of table t has w cells
---     Widths ws ts           tables ts have the widths ws, one each
 --     make-wide              an operator on such tables makes one of its own width
---     Sound ws ps            the operators of ps fit tables of widths ws, one after another, with the widths they have
 --     read-sound             a plan that is read is sound, and its last width is 3
 --     flat-wide              the cells of a table: rows times width
---     Laid f                 what a run fills: tables of some widths, the last 3, cells filled the cells of the tables
 --     running-laid           .. of a sound plan
 use Prim.Native.Nat.{ℕ, zero, suc, _+_, _*_, _<_}
 use mathlib.Core.Path.{_≡_, refl, sym, ap, ap₂, _∙_, subst}
@@ -38,16 +34,8 @@ use Rattle.theorems.proofs.PlanWidths.{attempt-gives, provided-gives}
 use Rattle.laws.proofs.Outcomes.{gives-same, full-done, failed-done, given-gives, given-any}
 use Rattle.laws.proofs.Outcomes.{given-attempt, given-provided, found-refuses, found-reads, found-unless}
 use Rattle.laws.proofs.Outcomes.{found-refusing, found-reading}
-
-abbrev pub RowsOf : ℕ → Table → Type 0
-RowsOf w t = All (λ (r : Row). length r ≡ w) t
-
--- one width for each table
-abbrev pub Widths : List ℕ → List Table → Type 0
-Widths [] [] = Unit {0}
-Widths [] (t ∷ ts) = ⊥
-Widths (w ∷ ws) [] = ⊥
-Widths (w ∷ ws) (t ∷ ts) = RowsOf w t × Widths ws ts
+use Rattle.theorems.specs.PlanRead.{widthsOf}
+use Rattle.agreement.specs.RowWidths.{RowsOf, Widths, Follows, LastThree, TablesLaid}
 
 widths-at : (ws : List ℕ) (ts : List Table) (n : ℕ) → Widths ws ts → n < length ws → RowsOf (getD ws n 0) (tableOf ts n)
 widths-at [] ts n h k = absurd (omega arith)
@@ -192,23 +180,11 @@ module _ (ws : List ℕ) (ts : List Table) (h : Widths ws ts) where
 
 -- The plan's check: each operator fits the tables before it, with the width it has
 
-abbrev pub widthsOf : List Placed → List ℕ
-widthsOf ps = map (λ (p : Placed). p .width) ps
-
-abbrev pub Sound : List ℕ → List Placed → Type 0
-Sound ws [] = Unit {0}
-Sound ws (p ∷ ps) = (widthOf ws (p .op) ≡ gives (p .width)) × Sound (ws ++ (p .width ∷ [])) ps
-
--- there is a last operator, of width 3
-abbrev pub LastThree : List Placed → Type 0
-LastThree [] = ⊥
-LastThree (p ∷ ps) = lastOf p ps .width ≡ 3
-
 -- operators that are read after those in ps
 record After (ps qs : List Placed) : Type 0 where
   rest : List Placed
   whole : qs ≡ ps ++ rest
-  sound : Sound (widthsOf ps) rest
+  sound : Follows (widthsOf ps) rest
   last : LastThree qs
 
 ended-after : (ps : List Placed) → Found (After ps) (ended ps)
@@ -232,7 +208,7 @@ after-one ps qs p e a =
     record {
       rest = p ∷ a .rest;
       whole = a .whole ∙ append-assoc ps (p ∷ []) (a .rest);
-      sound = (e, subst (λ (ws : List ℕ). Sound ws (a .rest)) (map-append _ ps (p ∷ [])) (a .sound));
+      sound = (e, subst (λ (ws : List ℕ). Follows ws (a .rest)) (map-append _ ps (p ∷ [])) (a .sound));
       last = a .last;
     }
 
@@ -255,11 +231,11 @@ from-after (suc left) bs ps at =
     go true h = ended-after ps
     go false h = h
 
-pub read-sound : (bs : List ℕ) (ps : List Placed) → planRead bs ≡ reads ps → Sound [] ps × LastThree ps
+pub read-sound : (bs : List ℕ) (ps : List Placed) → planRead bs ≡ reads ps → Follows [] ps × LastThree ps
 unfolding planRead
 read-sound bs ps e =
     let a = from-after 512 bs [] 0 .found ps e in
-    (subst (λ (qs : List Placed). Sound [] qs) (sym (a .whole)) (a .sound), a .last)
+    (subst (λ (qs : List Placed). Follows [] qs) (sym (a .whole)) (a .sound), a .last)
 
 -- A run of a sound plan
 
@@ -314,26 +290,22 @@ unfolding within
 within-done true at m y e = e
 within-done false at m y e = absurd (full-done at y e)
 
-pub record Laid (ws : List ℕ) (f : Filled) : Type 0 where
-  pub widths : Widths ws (f .tables)
-  pub cells : f .filled ≡ length (gather flat (f .tables))
-
 running-widths : (w : World) (room : ℕ) (ps : List Placed) (ws : List ℕ) (ts : List Table) (n : ℕ) (f : Filled)
-    → Sound ws ps → Widths ws ts → n ≡ length (gather flat ts) → running w room ps ts n ≡ done f
-    → Laid (ws ++ widthsOf ps) f
+    → Follows ws ps → Widths ws ts → n ≡ length (gather flat ts) → running w room ps ts n ≡ done f
+    → TablesLaid (ws ++ widthsOf ps) f
 unfolding running cells
 running-widths w room [] ws ts n f s h k e =
-    subst (Laid (ws ++ [])) (done-same e)
+    subst (TablesLaid (ws ++ [])) (done-same e)
     (record { widths = subst (λ (us : List ℕ). Widths us ts) (sym (append-nil ws)) h; cells = k })
 running-widths w room (p ∷ ps) ws ts n f s h k e =
     let (t, d, r) = trying-done (p .at) (make w (p .op) ts) _ f e in
     let wide : RowsOf (p .width) t = make-wide ws ts h w (p .op) (p .width) (s .0) .given t d in
-    subst (λ (us : List ℕ). Laid us f) (append-assoc ws (p .width ∷ []) (widthsOf ps))
+    subst (λ (us : List ℕ). TablesLaid us f) (append-assoc ws (p .width ∷ []) (widthsOf ps))
     (running-widths w room ps (ws ++ (p .width ∷ [])) (ts ++ (t ∷ [])) (n + length t * p .width) f (s .1)
     (widths-more ws ts (p .width) t h wide) (ap (_+ length t * p .width) k ∙ flat-more ts t (p .width) wide)
     (within-done _ (p .at) _ f r))
 
-pub running-laid : (w : World) (room : ℕ) (ps : List Placed) (f : Filled) → Sound [] ps
-    → running w room ps [] 0 ≡ done f → Laid (widthsOf ps) f
+pub running-laid : (w : World) (room : ℕ) (ps : List Placed) (f : Filled) → Follows [] ps
+    → running w room ps [] 0 ≡ done f → TablesLaid (widthsOf ps) f
 unfolding gather
 running-laid w room ps f s e = running-widths w room ps [] [] 0 f s tt refl e

@@ -18,7 +18,8 @@ use Rattle.theorems.proofs.Counted.{running-measured}
 use Rattle.agreement.specs.Passing.{Passed, PlanPassed, stands, fills, SixBelow}
 use Rattle.agreement.proofs.Room.{Exact, exact-short, exact-enough, evaluate-exact, running-exact}
 use Rattle.agreement.proofs.Room.{standing-count, filling-filled}
-use Rattle.agreement.proofs.EngineCalls.{ended, evaluated, ran, Plain, evaluated-plain, ran-plain, ended-six}
+use Rattle.agreement.proofs.EngineCalls.{evaluated-plain, ran-plain, ended-six}
+use Rattle.agreement.specs.EngineCalls.{ended, evaluated, ran, Plain}
 use Rattle.agreement.proofs.EngineCalls.{ended-full, ended-gives, ended-answer}
 use Rattle.agreement.proofs.Answers.{evaluate-at, run-at, answer-of}
 

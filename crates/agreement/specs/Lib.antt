@@ -5,3 +5,5 @@ pub mod Tieless
 pub mod Machine
 pub mod Room
 pub mod Passing
+pub mod EngineCalls
+pub mod RowWidths

@@ -27,7 +27,9 @@ use Rattle.meaning.specs.Calls.{evaluateOutcome, translateCall, runCall, evalua
 use Rattle.laws.proofs.Outcomes.{found-reads, found-reading}
 use Rattle.theorems.proofs.Counts.{counts}
 use Rattle.theorems.proofs.Counted.{running-fits}
-use Rattle.agreement.proofs.RowWidths.{widthsOf, read-sound, flat-wide, flat-last, Laid, running-laid}
+use Rattle.agreement.proofs.RowWidths.{read-sound, flat-wide, flat-last, running-laid}
+use Rattle.theorems.specs.PlanRead.{widthsOf}
+use Rattle.agreement.specs.RowWidths.{TablesLaid}
 use Rattle.agreement.proofs.Answers.{last-three, room-lent, found-same, plan-long}
 use Rattle.lines.specs.declared.Told.{Told}
 use Rattle.lines.specs.Text.{refusedWith}
@@ -43,7 +45,7 @@ done-within : (bytes : List ℕ) (ps : List Placed) (w : World) (lent : ℕ) (f 
     → f .filled - length (lastTable (f .tables)) * 3 + length (lastTable (f .tables)) * 3 ≤ lent
 done-within bytes ps w lent f e d =
     let (sound, three) = read-sound bytes ps e in
-    let laid : Laid (widthsOf ps) f = running-laid w (room lent) ps f sound d in
+    let laid : TablesLaid (widthsOf ps) f = running-laid w (room lent) ps f sound d in
     let last : Table = lastTable (f .tables) in
     let (front, split) = flat-last (f .tables) in
     let fits : f .filled ≤ room lent = running-fits w (room lent) ps [] 0 f (omega arith) d in

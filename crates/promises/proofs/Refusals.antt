@@ -21,7 +21,8 @@ use Rattle.meaning.specs.Calls.{Answer, gives, refused, refusal, room, catalogu
 use Rattle.meaning.specs.Calls.{queryCall, planOf, translateOutcome, translateCall, runOutcome, runCall}
 use Rattle.meaning.specs.Calls.{evaluateOutcome, evaluateCall}
 use Rattle.agreement.specs.Passing.{Passed, evaluation, PlanPassed, theRun}
-use Rattle.agreement.proofs.EngineCalls.{ended, evaluated, ran, gives-refused}
+use Rattle.agreement.proofs.EngineCalls.{gives-refused}
+use Rattle.agreement.specs.EngineCalls.{ended, evaluated, ran}
 use Rattle.agreement.proofs.Answers.{evaluate-at, run-at, answer-of}
 use Rattle.promises.specs.Promises.{Refuses, OfCatalogue, OfQuery, OfTranslation, tooMany, longer}
 use Rattle.promises.specs.Promises.{OfRun, ofPlan, OfEvaluation}
