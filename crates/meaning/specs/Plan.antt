@@ -1,8 +1,22 @@
 -- A plan read from bytes (document 01, 'Plan operators'; the records' fields are listed in docs/DECISIONS.md).
 --     Op                 one operator: tables by number, columns from 0
+--     markRT, markRA, markRP, markRU, markRD, markRS, markRJ, markRN, markRF, markRC, markRE, markRK, markRX, markRO
+--                        the mark of each
+--     plainIn h          what RA may attach: an integer or a boolean
+--     columnsAt bs at n  the n columns from an offset on
+--     sized bs at n o    operator o, of n bytes that are all there, with the offset after it
+--     field, table       byte i, and the table number from byte i on, of the operator at an offset
+--     attachAt, projectAt, numberAt, functionAt, stepAt     the operators whose fields have ranges
+--     operatorOf ..      the operator of a mark
 --     operatorAt bs at   the operator at an offset and the offset after it: own fields sound and all there
+--     tableWidth ws t    the width of table t: there is none from the operator's own number on
+--     upTo6 w            a width of at most 6
+--     columns w cs       every column of cs is below w
 --     widthOf ws op      the width of the table that op makes of tables of widths ws: or that op is unsound there
 --     Placed             an operator with its offset and the width of its table
+--     placedAt ..        a sound operator at an offset, with the offset after it
+--     lastOf p ps        the last operator of a plan
+--     ended ps           none: 5 at 0; the last of width 3, else 5 at its record
 --     planFrom ..        the operators from an offset on, `left` more allowed
 --     planRead bs        the whole plan, or refusal 5 at its place
 use Prim.Native.Nat.{ℕ, zero, suc, _+_}

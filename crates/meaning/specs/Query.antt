@@ -1,8 +1,17 @@
 -- A query read from bytes (document 01, 'Query records').
 --     Query                a query as a tree; each node has the byte offset of its record first
 --     Record               one record by itself, without operands
+--     markQL, markQB, markQE, markQR, markQV, markQS, markQT, markQF, markQI, markQO, markQC, markQD, markQX
+--                          the mark of each
+--     variableOf, fragmentOf, booleanOf     the fields that have ranges: 0 to 7, 1 to 255, 0 or 1
+--     sized bs at n r      record r, of n bytes that are all there, with the offset after it
+--     recordOf ..          the record of a mark
 --     recordAt bs at       the record at an offset and the offset after it, or refusal 1
 --     Read                 what reading at an offset finds: the tree, the offset after it, the records read so far
+--     Operand              how an operand is read: the variables bound, the records before it, its offset
+--     bound v vs           v is among vs
+--     leaf, one, two, three     a record without operands, with one, two, three
+--     operands ..          a record and its operands
 --     read d bs vs n at    the query at an offset, d more levels allowed, vs the variables bound there, n records
 --                          before it
 --     queryRead bs         the whole of the bytes as one query: refusals 1, 2, 3

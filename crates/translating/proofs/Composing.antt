@@ -15,12 +15,13 @@ use Rattle.meaning.specs.Query.{Query, QT, QF, QI, free}
 use Rattle.meaning.specs.Translation.{Made, Tables, next, hold, freeIn, othersIn, lifts, lifted, headF, tailF, headI}
 use Rattle.meaning.specs.Translation.{then, tr}
 use Rattle.query_walks.specs.Parse.{Parsed, Free}
-use Rattle.rules.specs.declared.Pen.{Pen}
-use Rattle.rules.specs.declared.Output.{Output}
-use Rattle.rules.specs.declared.Lifted.{Lifted}
-use Rattle.rules.specs.Ruled.{Wrote, Ruled, Lifts, Holds, flagged, choice}
-use Rattle.rules.proofs.Adding.{ruled-then}
-use Rattle.rules.proofs.Lifting.{hold-holds, flagged-free, flagged-others, lifts-wrote, lifts-holds}
+use Rattle.adding.specs.declared.Pen.{Pen}
+use Rattle.adding.specs.declared.Output.{Output}
+use Rattle.scopes.specs.declared.Lifted.{Lifted}
+use Rattle.adding.specs.Ruled.{Wrote, Ruled}
+use Rattle.scopes.specs.Lifts.{Lifts, Holds, flagged, choice}
+use Rattle.adding.proofs.Adding.{ruled-then}
+use Rattle.scopes.proofs.Lifting.{hold-holds, flagged-free, flagged-others, lifts-wrote, lifts-holds}
 use Rattle.translating.specs.Translating.{Tree, Two, Three, Makes, MakesBranch, branched}
 use Rattle.translating.proofs.Rooms.{moved}
 use Rattle.translating.proofs.Splitting.{ruled-is}

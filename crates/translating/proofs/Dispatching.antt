@@ -26,10 +26,10 @@ use Rattle.query_walks.specs.Parse.{trees, parse}
 use Rattle.query_records.specs.Fields.{Ranged}
 use Rattle.query_walks.proofs.Callers.{unfound-parses, found-parses, shallow-parses}
 use Rattle.query_records.proofs.Callers.{found-sound, found-small}
-use Rattle.rules.specs.declared.Pen.{Pen}
-use Rattle.rules.specs.declared.Output.{Output}
-use Rattle.rules.specs.Ruled.{Wrote, Ruled}
-use Rattle.rules.proofs.Adding.{wrote-none}
+use Rattle.adding.specs.declared.Pen.{Pen}
+use Rattle.adding.specs.declared.Output.{Output}
+use Rattle.adding.specs.Ruled.{Wrote, Ruled}
+use Rattle.adding.proofs.Adding.{wrote-none}
 use Rattle.translating.specs.Translating.{Asked, Translates}
 
 module _ (bs : List ℕ) (at d : ℕ) (p : Pen) (h : Asked (parse d bs at) p) where

@@ -19,12 +19,13 @@ use Rattle.meaning.specs.Translation.{Tables, tr, then, lifts, lifted, freeIn, 
 use Rattle.theorems.specs.Closed.{records}
 use Rattle.theorems.proofs.PlanBound.{tr-bound, length-lifts, length-freeIn}
 use Rattle.query_walks.specs.Parse.{Parsed}
-use Rattle.rules.specs.declared.Pen.{Pen}
-use Rattle.rules.specs.declared.Output.{Output}
-use Rattle.rules.specs.declared.Lifted.{Lifted}
-use Rattle.rules.specs.Ruled.{Room, Wrote, Ruled, Lifts, Holds, tablesOf, flagged}
-use Rattle.rules.proofs.Adding.{wrote-room}
-use Rattle.rules.proofs.Lifting.{lifts-all-room}
+use Rattle.adding.specs.declared.Pen.{Pen}
+use Rattle.adding.specs.declared.Output.{Output}
+use Rattle.scopes.specs.declared.Lifted.{Lifted}
+use Rattle.adding.specs.Ruled.{Room, Wrote, Ruled}
+use Rattle.scopes.specs.Lifts.{Lifts, Holds, tablesOf, flagged}
+use Rattle.adding.proofs.Adding.{wrote-room}
+use Rattle.scopes.proofs.Lifting.{lifts-all-room}
 use Rattle.translating.specs.Translating.{Tree, Asked, AskedOne, AskedTwo, AskedThree, AskedBranch}
 use Rattle.translating.specs.Translating.{Makes, MakesBranch, branched}
 

@@ -14,9 +14,9 @@ use Rattle.theorems.specs.Closed.{records}
 use Rattle.laws.proofs.Outcomes.{gives-same}
 use Rattle.query_walks.specs.Parse.{Parsed, lone, pair, triple}
 use Rattle.query_walks.proofs.Parsing.{lone-gives, pair-gives, triple-gives}
-use Rattle.rules.specs.declared.Pen.{Pen}
-use Rattle.rules.specs.declared.Output.{Output}
-use Rattle.rules.specs.Ruled.{Room, Ruled}
+use Rattle.adding.specs.declared.Pen.{Pen}
+use Rattle.adding.specs.declared.Output.{Output}
+use Rattle.adding.specs.Ruled.{Room, Ruled}
 use Rattle.translating.specs.Translating.{Tree, Two, Three, Asked, AskedOne, AskedTwo, AskedThree, Translates}
 use Rattle.translating.specs.Translating.{Makes}
 use Rattle.translating.specs.Translating.{MakesOne, MakesTwo, MakesThree}

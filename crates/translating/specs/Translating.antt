@@ -18,9 +18,10 @@ use Rattle.meaning.specs.Query.{Query}
 use Rattle.meaning.specs.Translation.{Made, Tables, tr, then, lifts, lifted, freeIn}
 use Rattle.theorems.specs.Closed.{records}
 use Rattle.query_walks.specs.Parse.{Parsed}
-use Rattle.rules.specs.declared.Pen.{Pen}
-use Rattle.rules.specs.declared.Output.{Output}
-use Rattle.rules.specs.Ruled.{Room, Ruled, Holds}
+use Rattle.adding.specs.declared.Pen.{Pen}
+use Rattle.adding.specs.declared.Output.{Output}
+use Rattle.adding.specs.Ruled.{Room, Ruled}
+use Rattle.scopes.specs.Lifts.{Holds}
 
 pub record Tree (d : Parsed) : Type 0 where
   pub q : Query

@@ -1,11 +1,11 @@
 // The work of the translator: the operators of a query's expressions, written over lent bytes.
+use adding::Output;
+use adding::Pen;
 use cells::Axis;
 use cells::Function;
 use cells::Test;
 use query_records::Reading;
 use query_records::Record;
-use rules::Output;
-use rules::Pen;
 ghost use mathlib.Core.Path.{_≡_};
 ghost use lib.ListN.{getD};
 ghost use Rattle.meaning.specs.Query.{QS, QT, QF, QI, QO, QC, QD, QX};
@@ -17,7 +17,7 @@ ghost use Rattle.translating.specs.Translating.{Makes, MakesOne, MakesTw
 fn variable(tables: [usize; 8], v: usize, pen: Pen, next: usize) -> Output
     ensures { λ r. ⌜ r ≡ record { table = getD tables v 0; pen = pen; next = next } ⌝ }
 {
-    let table = rules::table_of(tables, v);
+    let table = scopes::table_of(tables, v);
     Output { table, pen, next }
 }
 
@@ -119,7 +119,7 @@ fn let_in(
 {
     let a = expression(query, at, depth, l, tables, pen, plan);
     let p = a.pen;
-    let inner = rules::hold(tables, v, a.table);
+    let inner = scopes::hold(tables, v, a.table);
     expression(query, a.next, depth, l, inner, p, plan)
 }
 
@@ -142,15 +142,15 @@ fn for_each(
     let body = a.next;
     let p = a.pen;
     let m = p.operators;
-    let q = rules::for_head(plan, p, a.table);
-    let others = rules::without(query_walks::free(query, body, depth), v);
-    let lifted = rules::lift(plan, q, tables, others, m + 4, 4);
+    let q = scopes::for_head(plan, p, a.table);
+    let others = scopes::without(query_walks::free(query, body, depth), v);
+    let lifted = scopes::lift(plan, q, tables, others, m + 4, 4);
     let outer = lifted.tables;
-    let inner = rules::hold(outer, v, m + 2);
+    let inner = scopes::hold(outer, v, m + 2);
     let s = lifted.pen;
     let b = expression(query, body, depth, m + 3, inner, s, plan);
     let t = b.pen;
-    rules::for_tail(plan, t, b.table, m + 4, b.next)
+    scopes::for_tail(plan, t, b.table, m + 4, b.next)
 }
 
 // QI: c, its two loops, then each branch under its own loop with the variables free in it lifted, then the union.
@@ -170,12 +170,12 @@ fn choose(
     let c = expression(query, at, depth, l, tables, pen, plan);
     let p = c.pen;
     let m = p.operators;
-    let q = rules::if_head(plan, p, l, c.table);
+    let q = scopes::if_head(plan, p, l, c.table);
     let a = branch(query, c.next, depth, m + 2, tables, q, plan);
     let s = a.pen;
     let b = branch(query, a.next, depth, m + 3, tables, s, plan);
     let t = b.pen;
-    rules::if_tail(plan, t, a.table, b.table, b.next)
+    scopes::if_tail(plan, t, a.table, b.table, b.next)
 }
 
 // A branch of QI under its own loop: the variables free in it are lifted, then it is translated.
@@ -193,7 +193,7 @@ fn branch(
         (plan .exit)) r ⌝ }
 {
     let flags = query_walks::free(query, at, depth);
-    let lifted = rules::lift(plan, pen, tables, flags, l, 0);
+    let lifted = scopes::lift(plan, pen, tables, flags, l, 0);
     let inner = lifted.tables;
     let p = lifted.pen;
     expression(query, at, depth, l, inner, p, plan)

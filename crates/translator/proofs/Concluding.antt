@@ -30,10 +30,11 @@ use Rattle.queries.specs.Answers as Queries
 use Rattle.query_walks.specs.Parse.{parse}
 use Rattle.query_walks.proofs.Accepting.{query-accepted}
 use Rattle.writing.proofs.Penned.{cleared-from-0, cleared-penned}
-use Rattle.rules.specs.declared.Pen.{Pen}
-use Rattle.rules.specs.declared.Output.{Output}
-use Rattle.rules.specs.Ruled.{Room, Wrote, Holds}
-use Rattle.rules.proofs.Adding.{wrote-then, wrote-length}
+use Rattle.adding.specs.declared.Pen.{Pen}
+use Rattle.adding.specs.declared.Output.{Output}
+use Rattle.adding.specs.Ruled.{Room, Wrote}
+use Rattle.scopes.specs.Lifts.{Holds}
+use Rattle.adding.proofs.Adding.{wrote-then, wrote-length}
 use Rattle.translating.specs.Translating.{Tree, Asked, Makes}
 use Rattle.translator.specs.Answers.{Whole, Concludes, answered}
 use Rattle.translator.specs.declared.Translated.{Translated}

@@ -1,9 +1,9 @@
 // The translator: the query check, the plan that crates/translating writes over lent bytes, and the answer.
+use adding::Operator;
+use adding::Pen;
 use cells::limits::LEVELS;
 use cells::limits::OPERATORS;
 use queries::Checked;
-use rules::Operator;
-use rules::Pen;
 ghost use mathlib.Core.Path.{_≡_};
 ghost use lib.ListN.{length};
 ghost use Rattle.meaning.specs.Calls.{translateCall};
@@ -41,7 +41,7 @@ fn whole(query: &[u8], plan: &mut [u8]) -> Translated
         operators: 0,
         at: 0,
     };
-    let first = rules::add(plan, start, Operator::First);
+    let first = adding::add(plan, start, Operator::First);
     let body = translating::expression(query, 0, LEVELS, 0, [0; 8], first, plan);
     let pen = body.pen;
     let end = rules::last(plan, pen, body.table);

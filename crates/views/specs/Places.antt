@@ -2,6 +2,7 @@
 --     askedPlan bs end n w     the plan that ends with operator n, whose record ends at `end`; three columns of its
 --                              table follow where its width is not 3, as the last table's must be
 --     placed s e room          the cells from s up to e, where they are in the room
+--     placeOf s r e w room     where the table of width w stands, after a run with start s, r rows and e cells
 --     placeIn a w room         where the table of width w stands, after the answer a to that plan
 --     Standing room p          the place is in the room
 use Prim.Native.Nat.{ℕ, _+_, _-_, _*_, _≤_}

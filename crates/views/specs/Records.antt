@@ -1,6 +1,7 @@
 -- The records of a plan and their fields (document 01, 'Plan operators').
 --     Within l at s             what was seen at an offset stands within l bytes, and a table has 1 to 6 columns
 --     sizeOf mark after         the bytes of the field that begins so many bytes after its record
+--     fieldOf bs from n         the field of n bytes at an offset: a number, or a cell of eight
 --     fieldAt bs at from end    the field at an offset, of the record from `at` up to `end`
 --     Ahead from end f          the offset after a field lies behind it, and not behind the record
 use Prim.Native.Nat.{ℕ, _+_, _-_, _≤_, _<_}

@@ -1,5 +1,6 @@
 -- The text of a row. A text is a list of bytes, each the ASCII number of a character.
 --     truthWord b      `false` or `true`
+--     heldText h       what is held, as text
 --     cellText z       the item of a cell: an integer as itself, `false`, `true`, or `node` and its rank
 --     atRight w        a word at the right of 12 characters; one that is longer stands alone
 --     column z         a cell in its column

@@ -3,10 +3,10 @@ use borrow.Author.Needs.{needs}
 use native.Mathlib.Omega.{arith}
 use mathlib.Core.Path.{refl}
 use Rattle.writing.specs.Listed.{columnsOf, keysOf}
-use Rattle.rules.specs.Ruled.{operatorOf}
+use Rattle.adding.specs.Ruled.{operatorOf}
 use Rattle.meaning.specs.Translation.{tailC}
 use lib.Dec.{lit≤}
-use Rattle.rules.proofs.Adding.{wrote-then, wrote-room, wrote-length}
+use Rattle.adding.proofs.Adding.{wrote-then, wrote-room, wrote-length}
 use Rattle.rules.proofs.count_tail.Statement.{statement}
 use Rattle.rules.proofs.count_tail.Tie as tie
 

@@ -1,9 +1,9 @@
 -- `last` meets its contract: one operator after another.
 use borrow.Author.Needs.{needs}
 use Rattle.writing.specs.Listed.{columnsOf, keysOf}
-use Rattle.rules.specs.Ruled.{operatorOf}
+use Rattle.adding.specs.Ruled.{operatorOf}
 use Rattle.meaning.specs.Translation.{tailLast}
-use Rattle.rules.proofs.Adding.{wrote-then}
+use Rattle.adding.proofs.Adding.{wrote-then}
 use Rattle.rules.proofs.last.Statement.{statement}
 use Rattle.rules.proofs.last.Tie as tie
 

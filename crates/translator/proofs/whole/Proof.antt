@@ -2,7 +2,7 @@
 use borrow.Author.Needs.{needs}
 use mathlib.Core.Path.{refl}
 use lib.Dec.{lit≤}
-use Rattle.rules.specs.Ruled.{operatorOf}
+use Rattle.adding.specs.Ruled.{operatorOf}
 use Rattle.translator.specs.Answers.{answered}
 use Rattle.translator.proofs.Concluding.{whole-asked, whole-room, whole-wrote, many, long, owes-refusal}
 use Rattle.translator.proofs.Concluding.{fits-answer, fits-left}

@@ -11,8 +11,8 @@ use Rattle.translating.proofs.expression.Reads as expression
 use Rattle.translating.proofs as parts
 use parts.+apply+branch+choose+count+expression+for_each+let_in+sequence+step+values as cycle
 use cycle.Lts-choose as choose-lts
-use Rattle.rules.proofs.if_head.Reads as if-head-reads
-use Rattle.rules.proofs.if_tail.Reads as if-tail-reads
+use Rattle.scopes.proofs.if_head.Reads as if-head-reads
+use Rattle.scopes.proofs.if_tail.Reads as if-tail-reads
 use cycle.Proof.Measures.{choose-at, branch-below, expression-below}
 
 abbrev pub callees : ℕ → choose-lts.Claims

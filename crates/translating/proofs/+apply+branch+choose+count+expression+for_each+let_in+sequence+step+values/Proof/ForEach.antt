@@ -14,12 +14,12 @@ use Rattle.translating.proofs.for_each.Reads as for-each
 use Rattle.translating.proofs as parts
 use parts.+apply+branch+choose+count+expression+for_each+let_in+sequence+step+values as cycle
 use cycle.Lts-for_each as for-each-lts
-use Rattle.rules.proofs.for_head.Reads as for-head-reads
-use Rattle.rules.proofs.for_tail.Reads as for-tail-reads
+use Rattle.scopes.proofs.for_head.Reads as for-head-reads
+use Rattle.scopes.proofs.for_tail.Reads as for-tail-reads
 use Rattle.query_walks.proofs.free.Reads as free-reads
-use Rattle.rules.proofs.hold.Reads as hold-reads
-use Rattle.rules.proofs.lift.Reads as lift-reads
-use Rattle.rules.proofs.without.Reads as without-reads
+use Rattle.scopes.proofs.hold.Reads as hold-reads
+use Rattle.scopes.proofs.lift.Reads as lift-reads
+use Rattle.scopes.proofs.without.Reads as without-reads
 use cycle.Proof.Measures.{for-each-at, expression-below}
 
 abbrev pub callees : ℕ → for-each-lts.Claims

@@ -1,2 +1,0 @@
-pub mod Adding
-pub mod Lifting
