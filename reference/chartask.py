@@ -25,7 +25,7 @@ def item_line(cell):
 
 def same(ran, evaluated):
     """'whether the engines agree (`yes`, `no`, or `room` if either gave 6)'"""
-    if 6 in (ran.refusal, evaluated.refusal):
+    if ran.refusal == 6 or evaluated.refusal == 6:
         return "room"
     if ran.refusal or evaluated.refusal:
         return "yes" if ran.refusal == evaluated.refusal else "no"
@@ -45,9 +45,8 @@ def lines(doc, query):
     if translated.refusal:
         return [f"refused {translated.refusal} at {translated.place}"]
     ran = runner.run(translated.lent[:translated.plan_bytes], doc, WORK_CELLS)
-    if ran.refusal == 6:  # the text is decided, and evaluating could take for ever
-        return first_lines(ran) + ["same room"]
-    evaluated = evaluator.evaluate(query, doc, WORK_CELLS)
+    # after a runner's 6 the text is decided, and evaluating could take for ever
+    evaluated = None if ran.refusal == 6 else evaluator.evaluate(query, doc, WORK_CELLS)
     return first_lines(ran) + [f"same {same(ran, evaluated)}"]
 
 
