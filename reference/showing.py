@@ -284,7 +284,7 @@ def cases():
 
 def write():
     """The crate's data/cases.bin and stdout."""
-    crate = stored.CRATES / CRATE
+    crate = stored.CRATE.parent / CRATE
     (crate / "data").mkdir(parents=True, exist_ok=True)
     all_cases = list(cases())
     kept = b"".join(bytes([WORDS[word]]) + stored.kept(first) + stored.kept(doc) for word, first, doc in all_cases)
