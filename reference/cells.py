@@ -6,6 +6,8 @@ An item is kept as its cell everywhere, so that cells of mixed kinds compare and
 order as the signed 64-bit numbers they are.
 """
 
+from typing import NamedTuple
+
 LEAST_INTEGER = -2147483648
 GREATEST_INTEGER = 2147483647
 FALSE = 2**32
@@ -22,6 +24,14 @@ class Refused(Exception):
         super().__init__(number, place)
         self.number = number
         self.place = place
+
+
+class Written(NamedTuple):
+    """The answer of a writer of text (document 02, L1 and L9): the text's bytes, the lent bytes."""
+    refusal: int
+    place: int
+    text_bytes: int
+    lent: bytes
 
 
 class Fails(Exception):

@@ -20,7 +20,7 @@ from typing import NamedTuple
 
 import catalogue
 from catalogue import ELEMENT, LAST_LEVEL, LAST_NAME, MOST_ROWS, ROW, TEXT, Row
-from cells import GREATEST_INTEGER, LEAST_INTEGER, Refused, emptied, followed_by_zeros
+from cells import GREATEST_INTEGER, LEAST_INTEGER, Refused, Written, emptied, followed_by_zeros
 
 DIGITS = b"0123456789"
 END = -1
@@ -31,14 +31,6 @@ class Read(NamedTuple):
     refusal: int
     place: int
     rows: int
-    lent: bytes
-
-
-class Written(NamedTuple):
-    """The writer's answer: the text's bytes, the lent bytes."""
-    refusal: int
-    place: int
-    text_bytes: int
     lent: bytes
 
 

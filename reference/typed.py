@@ -33,7 +33,7 @@ from functools import cache
 from typing import NamedTuple
 
 import query
-from cells import Refused, emptied, followed_by_zeros
+from cells import Refused, Written, emptied, followed_by_zeros
 
 SPACES = b" \t\n\r"
 DIGITS = b"0123456789"
@@ -53,14 +53,6 @@ class Read(NamedTuple):
     place: int
     records: int
     record_bytes: int
-    lent: bytes
-
-
-class Written(NamedTuple):
-    """The writer's answer: the text's bytes, the lent bytes."""
-    refusal: int
-    place: int
-    text_bytes: int
     lent: bytes
 
 
