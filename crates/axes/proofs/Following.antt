@@ -22,7 +22,7 @@ use Rattle.laws.specs.Lists.{any}
 use Rattle.laws.proofs.Booleans.{clash}
 use Rattle.meaning.specs.Catalogue.{Catalogue}
 use Rattle.meaning.specs.World.{axisHolds, onAxis}
-use Rattle.catalogue.specs.Nested.{Nested}
+use Rattle.doc_rows.specs.Nested.{Nested}
 use Rattle.nodesets.specs.Nodes.{ranks}
 use Rattle.nodesets.proofs.Ranks.{any-is}
 use Rattle.axes.proofs.Fragments.{Deep, entering, deep-same, same-deep}

@@ -10,7 +10,7 @@ use native.Mathlib.Omega.{arith}
 use lib.Dec.{eqb}
 use Rattle.meaning.specs.Catalogue.{Catalogue}
 use Rattle.meaning.specs.World.{fragment}
-use Rattle.catalogue.proofs.Fragments.{fragment-same, fragment-parted}
+use Rattle.doc_rows.proofs.Fragments.{fragment-same, fragment-parted}
 
 abbrev pub Deep : (ℕ → ℕ) → ℕ → ℕ → Type 0
 Deep level a b = (u : ℕ) → a ≤ u → u < b → 0 < level u

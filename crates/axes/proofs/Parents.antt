@@ -11,7 +11,7 @@ use mathlib.Core.Logic.{_⊎_, inl, inr}
 use native.Mathlib.Decide.{ℕ-discrete}
 use native.Mathlib.Numerals.{add-one}
 use native.Mathlib.Omega.{arith}
-use Rattle.catalogue.specs.Nested.{Nested}
+use Rattle.doc_rows.specs.Nested.{Nested}
 use Rattle.nodesets.proofs.Tests.{le-or-lt}
 
 pub record Over (size level : ℕ → ℕ) (p v : ℕ) : Type 0 where

@@ -14,7 +14,7 @@ use Rattle.cells.specs.declared.Test.{Test}
 use Rattle.cells.specs.declared.Test.the-variants.{AnyNode, Element, Text, Named}
 use Rattle.meaning.specs.Catalogue.{catalogueOf}
 use Rattle.meaning.specs.World.{passes}
-use Rattle.catalogue.specs.Fields.{kindAt}
+use Rattle.doc_rows.specs.Fields.{kindAt}
 
 signed-same : (u m : ℕ) → same (signed 0x8000_0000 u) (pos m) ≡ (ltb u 0x8000_0000 && eqb u m)
 unfolding same signed

@@ -18,8 +18,8 @@ use Rattle.laws.specs.Lists.{any}
 use Rattle.laws.specs.Attempt.{fails, gives, attempt}
 use Rattle.meaning.specs.Catalogue.{Catalogue, catalogueOf}
 use Rattle.meaning.specs.World.{onAxis, passes, reached, step}
-use Rattle.catalogue.specs.Nested.{Nested}
-use Rattle.catalogue.specs.Sound.{Sound}
+use Rattle.doc_rows.specs.Nested.{Nested}
+use Rattle.doc_rows.specs.Sound.{Sound}
 use Rattle.nodesets.specs.declared.Marked.the-variants.{AllNodes, NotANode}
 use Rattle.axes.specs.Steps.{Known, Step}
 use Rattle.nodesets.specs.Nodes.{ranks}

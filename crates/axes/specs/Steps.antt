@@ -20,7 +20,7 @@ use Rattle.cells.specs.declared.Axis.the-variants.{Descendant, DescendantOrSelf
 use Rattle.cells.specs.declared.Test.{Test}
 use Rattle.meaning.specs.Catalogue.{catalogueOf}
 use Rattle.meaning.specs.World.{onAxis, passes}
-use Rattle.catalogue.specs.Nested.{Nested}
+use Rattle.doc_rows.specs.Nested.{Nested}
 use Rattle.nodesets.specs.Nodes.{ranks}
 
 pub record Marks (lo hi : ℕ) (R : ℕ → ℕ → Bool) (T : ℕ → Bool) (xs : List ℕ) (old new : List Bool) : Type 0 where

@@ -17,7 +17,7 @@ fn named(doc: &[u8], v: Rank, name: usize) -> bool
     requires { ⌜ 10 * (v .0) + 10 ≤ length (now doc) ⌝ }
     ensures { λ r. ⌜ ((n : ℕ) → r ≡ World.passes (catalogueOf (now (doc .entry)) n) (Test.Named name) (v .0)) ⌝ }
 {
-    if catalogue::kind(doc, v) == 1 {
+    if doc_rows::kind(doc, v) == 1 {
         let prop = cells::word4(doc, 10 * v.0 + 6);
         if prop < 0x8000_0000 {
             prop == name
@@ -36,8 +36,8 @@ pub fn passes(doc: &[u8], test: Test, v: Rank) -> bool
 {
     match test {
         Test::AnyNode => true,
-        Test::Element => catalogue::kind(doc, v) == 1,
-        Test::Text => catalogue::kind(doc, v) == 3,
+        Test::Element => doc_rows::kind(doc, v) == 1,
+        Test::Text => doc_rows::kind(doc, v) == 3,
         Test::Named(name) => named(doc, v, name),
     }
 }
@@ -62,7 +62,7 @@ fn end_of(doc: &[u8], rows: usize, v: Rank) -> Rank
     requires { ⌜ Known (now doc) rows × (v .0 < rows) ⌝ }
     ensures { λ e. ⌜ (e .0 ≡ v .0 + catalogueOf (now (doc .entry)) rows .size (v .0)) × (e .0 < rows) ⌝ }
 {
-    Rank(v.0 + catalogue::size(doc, v))
+    Rank(v.0 + doc_rows::size(doc, v))
 }
 
 // The level of a row.
@@ -70,7 +70,7 @@ fn level_of(doc: &[u8], rows: usize, v: Rank) -> usize
     requires { ⌜ Known (now doc) rows × (v .0 < rows) ⌝ }
     ensures { λ l. ⌜ (l ≡ catalogueOf (now (doc .entry)) rows .level (v .0)) × (l ≤ 63) ⌝ }
 {
-    catalogue::level(doc, v)
+    doc_rows::level(doc, v)
 }
 
 // The marked rows themselves.

@@ -2,22 +2,17 @@
 --     accepted          rows: the bytes read as the catalogue of that many rows
 --     accepted-sound    .. which is sound
 --     unsound           an offset: the bytes refuse, number 4 there
---     nested-fields     what a sound catalogue gives, over the fields that code reads
---     row-room          the rows of a sound catalogue are all there
-use Prim.Native.Nat.{ℕ, _+_, _*_, _≤_, _<_}
+use Prim.Native.Nat.{ℕ}
 use native.Mathlib.Omega.{arith}
 use mathlib.Core.List.{List, [], _∷_}
 use mathlib.Core.Path.{_≡_, refl, _∙_, ap}
-use lib.ListN.{length}
 use Rattle.laws.specs.Attempt.{Reading, reads, refuses}
 use Rattle.meaning.specs.Calls.{gives, refused, catalogueAnswer, catalogueCall}
 use Rattle.meaning.specs.Catalogue.{Catalogue, catalogueOf, catalogueRead}
 use Rattle.catalogue.specs.Answers.{answered}
-use Rattle.catalogue.specs.Fields.{sizeAt, levelAt}
-use Rattle.catalogue.specs.Nested.{Nested}
-use Rattle.catalogue.specs.Sound.{Sound}
+use Rattle.doc_rows.specs.Sound.{Sound}
 use Rattle.catalogue.specs.declared.Checked.the-variants.{Rows, Unsound}
-use Rattle.catalogue.proofs.Soundness.{sound}
+use Rattle.doc_rows.proofs.Soundness.{sound}
 
 module _ (doc : List ℕ) (n : ℕ) where
   accepted-of : (x : Reading Catalogue) → ((c : Catalogue) → x ≡ reads c → Sound doc c)
@@ -44,12 +39,3 @@ module _ (doc : List ℕ) (n : ℕ) where
   pub unsound : answered (Unsound n) ≡ catalogueCall doc → catalogueRead doc ≡ refuses 4 n
   unfolding answered catalogueCall
   unsound e = unsound-of (catalogueRead doc) e
-
-  module _ (s : Sound doc (catalogueOf doc n)) where
-    pub nested-fields : Nested n (sizeAt doc) (levelAt doc)
-    unfolding catalogueOf sizeAt levelAt
-    nested-fields = s .nested
-
-    pub row-room : (r : ℕ) → r < n → 10 * r + 10 ≤ length doc
-    unfolding catalogueOf
-    row-room r h = omega (arith, s .whole)

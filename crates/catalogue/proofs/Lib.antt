@@ -1,10 +1,4 @@
-pub mod Rows
-pub mod Sizes
-pub mod Soundness
-pub mod Fragments
-pub mod Roots
 pub mod OwnFields
-pub mod FieldLaws
 pub mod Turns
 pub mod Accepted
 pub mod Decided

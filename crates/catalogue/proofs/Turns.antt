@@ -6,8 +6,6 @@
 --     turn-end, turn-over, turn-bad, turn-on      the row checks
 --     count-end, count-stop, count-on             the rows that are deeper
 --     exact-end, exact-bad, exact-on              the sizes
---     root-start, root-end, root-skip, root-here, root-next   the roots
---     fragment-first, fragment-found, fragment-back           the fragment
 --     check-bad, check-on, check-rows             the whole check, by what the row checks found
 use Prim.Native.Nat.{ℕ, zero, suc, _+_, _*_, _-_, _≤_, _<_}
 use native.Mathlib.Numerals.{add-one}
@@ -24,22 +22,19 @@ use Rattle.laws.specs.Attempt.{fails, gives, reads, refuses, unless, reading, p
 use Rattle.meaning.specs.Calls.{catalogueAnswer, catalogueCall}
 use Rattle.meaning.specs.Catalogue.{Catalogue, catalogueOf, markDN, ownSound, rowSound, rowsSound}
 use Rattle.meaning.specs.Catalogue.{deeper, sizesExact, catalogueRead}
-use Rattle.meaning.specs.World.{roots, member, fragment}
 use Rattle.catalogue.specs.Answers.{answered, counted}
-use Rattle.catalogue.specs.Fields.{sizeAt, levelAt, kindAt, propAt, kindSound}
-use Rattle.catalogue.specs.Ranks.{rootsFrom}
+use Rattle.doc_rows.specs.Fields.{sizeAt, levelAt, kindAt, propAt}
+use Rattle.catalogue.specs.Kinds.{kindSound}
 use Rattle.catalogue.specs.declared.Checked.{Checked}
 use Rattle.catalogue.specs.declared.Checked.the-variants.{Rows, Unsound}
-use Rattle.catalogue.proofs.FieldLaws.{rows-field, level-field}
-use Rattle.catalogue.proofs.Fragments.{fragment-here, fragment-before, fragment-low}
-use Rattle.catalogue.proofs.Roots.{roots-from, roots-none, roots-skip, roots-take}
+use Rattle.doc_rows.proofs.FieldLaws.{level-field}
 use Rattle.laws.proofs.Outcomes.{gives-same, fails-gives}
 use Rattle.catalogue.specs.declared.Row.{Row}
 use Rattle.catalogue.specs.declared.Row.the-variants.{Level}
 use Rattle.catalogue.specs.declared.Row.the-variants as Row
 use Rattle.catalogue.specs.Answers.{levelOf}
-use Rattle.catalogue.proofs.Rows.{rows-end, rows-over, rows-next, passed}
-use Rattle.catalogue.proofs.Sizes.{deeper-zero, deeper-none, deeper-more}
+use Rattle.doc_rows.proofs.Rows.{rows-end, rows-over, rows-next, passed}
+use Rattle.doc_rows.proofs.Sizes.{deeper-zero, deeper-none, deeper-more}
 
 module _ (doc : List ℕ) (r most n : ℕ) where
   pub own-deep : most < levelAt doc r → false ≡ ownSound (catalogueOf doc n) r most
@@ -166,64 +161,6 @@ module _ (doc : List ℕ) (n : ℕ) where
       pub exact-on : r < n → s ≡ d → sizesExact cat r (n - r) ≡ sizesExact cat (r + 1) (n - (r + 1))
       unfolding unless
       exact-on h k = exact h ∙ rw (← read, ← count, eq-eqb s d k)
-
-    pub root-end : (k : ℕ) → n ≤ r → member (rootsFrom cat r (n - r)) k ≡ fails
-    unfolding member
-    root-end k h =
-        let e : n - r ≡ zero = omega arith in
-        rw (e, roots-none cat r)
-
-    -- a level that was read
-    module _ {l : ℕ} (read : l ≡ levelAt doc r) where
-      is-root : l ≡ 0 → cat .level r ≡ 0
-      is-root z = level-field doc n r ∙ sym read ∙ z
-
-      no-root : (l ≡ 0 → ⊥) → cat .level r ≡ 0 → ⊥
-      no-root z y = z (read ∙ sym (level-field doc n r) ∙ y)
-
-      pub root-skip : (k : ℕ) → r < n → (l ≡ 0 → ⊥)
-          → member (rootsFrom cat r (n - r)) k ≡ member (rootsFrom cat (r + 1) (n - (r + 1))) k
-      root-skip k h z =
-          let e : n - r ≡ suc (n - (r + 1)) = omega arith in
-          rw (e, add-one r) (ap (λ (xs : List ℕ). member xs k) (roots-skip cat r (n - suc r) (no-root z)))
-
-      root-first : r < n → l ≡ 0 → member (rootsFrom cat r (n - r)) 0 ≡ gives r
-      unfolding member
-      root-first h z =
-          let e : n - r ≡ suc (n - (r + 1)) = omega arith in
-          rw (e, roots-take cat r (n - (r + 1)) (is-root z))
-
-      pub root-here : (k : ℕ) → r < n → l ≡ 0 → k ≡ 0 → member (rootsFrom cat r (n - r)) k ≡ gives r
-      root-here k h z e = ap (member (rootsFrom cat r (n - r))) e ∙ root-first h z
-
-      root-after : (k : ℕ) → r < n → l ≡ 0
-          → member (rootsFrom cat r (n - r)) (suc k) ≡ member (rootsFrom cat (r + 1) (n - (r + 1))) k
-      unfolding member
-      root-after k h z =
-          let e : n - r ≡ suc (n - (r + 1)) = omega arith in
-          rw (e, add-one r) (ap (λ (xs : List ℕ). member xs (suc k)) (roots-take cat r (n - suc r) (is-root z)))
-
-      pub root-next : (k : ℕ) → r < n → l ≡ 0 → (k ≡ 0 → ⊥)
-          → member (rootsFrom cat r (n - r)) k ≡ member (rootsFrom cat (r + 1) (n - (r + 1))) (k - 1)
-      root-next k h z f =
-          let e : k ≡ suc (k - 1) = omega arith in
-          ap (member (rootsFrom cat r (n - r))) e ∙ root-after (k - 1) h z
-
-      pub fragment-found : l ≡ 0 → r ≡ fragment cat r
-      fragment-found z = sym (fragment-here cat r (is-root z))
-
-      pub fragment-back : 0 < r → (l ≡ 0 → ⊥) → fragment cat (r - 1) ≡ fragment cat r
-      fragment-back h z =
-          let e : suc (r - 1) ≡ r = omega arith in
-          sym (fragment-before cat (r - 1) (λ y. no-root z (ap (cat .level) (sym e) ∙ y))) ∙ ap (fragment cat) e
-
-    pub fragment-first : r ≤ 0 → r ≡ fragment cat r
-    fragment-first h = omega (arith, fragment-low cat r)
-
-  pub root-start : (k : ℕ) → member (rootsFrom cat 0 (n - 0)) k ≡ member (roots cat) k
-  root-start k =
-      let e : n - 0 ≡ cat .rows = omega (arith, rows-field doc n) in
-      ap (λ (m : ℕ). member (rootsFrom cat 0 m) k) e ∙ ap (λ (xs : List ℕ). member xs k) (sym (roots-from cat))
 
 module _ (doc : List ℕ) where
   abbrev Read : Checked → Type 0

@@ -2,7 +2,6 @@
 --     answered a     the answer of the catalogue's check: the rows, or refusal 4 at a row's offset
 --     levelOf a      the level of a row that is sound
 --     counted a      the same as a reading of the number of rows
---     found f        the root that was asked for, or that there is none
 use Prim.Native.Nat.{ℕ}
 use mathlib.Core.List.{[], _∷_}
 use Rattle.laws.specs.Attempt as Attempt
@@ -13,8 +12,6 @@ use Rattle.catalogue.specs.declared.Checked.the-variants.{Rows, Unsound}
 use Rattle.catalogue.specs.declared.Row.{Row}
 use Rattle.catalogue.specs.declared.Row.the-variants.{Level}
 use Rattle.catalogue.specs.declared.Row.the-variants as Row
-use Rattle.catalogue.specs.declared.Found.{Found}
-use Rattle.catalogue.specs.declared.Found.the-variants.{At, Nothing}
 
 unfoldable pub answered : Checked → Answer
 answered (Rows n) = gives (n ∷ [])
@@ -27,7 +24,3 @@ counted (Unsound p) = refuses 4 p
 unfoldable pub levelOf : Row → Attempt ℕ
 levelOf (Level l) = Attempt.gives l
 levelOf Row.Unsound = fails
-
-unfoldable pub found : Found → Attempt ℕ
-found (At r) = Attempt.gives (r .0)
-found Nothing = fails

@@ -1,5 +1,2 @@
-pub mod Nested
-pub mod Sound
-pub mod Ranks
-pub mod Fields
+pub mod Kinds
 pub mod Answers

@@ -1,15 +1,15 @@
-// The catalogue: its check, the fields of a row, roots and fragments.
+// The catalogue's check.
 use cells::Rank;
 use cells::limits::DEEPEST;
 use cells::limits::ROWS;
 ghost use mathlib.Core.Path.{_≡_};
-ghost use Prim.Native.Nat.{ℕ, _+_, _*_, _-_, _≤_, _<_};
+ghost use Prim.Native.Nat.{_+_, _*_, _-_, _≤_, _<_};
 ghost use lib.ListN.{length};
 ghost use Rattle.laws.specs.Attempt.{provided, gives};
 ghost use Rattle.meaning.specs.Calls;
 ghost use Rattle.meaning.specs.Catalogue;
-ghost use Rattle.meaning.specs.World;
-ghost use Rattle.catalogue.specs.Fields;
+ghost use Rattle.doc_rows.specs.Fields;
+ghost use Rattle.catalogue.specs.Kinds;
 ghost use Rattle.catalogue.specs.Answers;
 
 // The mark of a row.
@@ -27,44 +27,6 @@ pub enum Checked {
     Unsound(usize),
 }
 
-// A root, where there is one.
-pub enum Found {
-    At(Rank),
-    Nothing,
-}
-
-// How many rows directly after the row are deeper than it, as the row says.
-pub fn size(doc: &[u8], r: Rank) -> usize
-    requires { ⌜ 10 * (r .0) + 10 ≤ length (now doc) ⌝ }
-    ensures { λ s. ⌜ (s ≡ Fields.sizeAt (now (doc .entry)) (r .0)) × (s < 65536) ⌝ }
-{
-    cells::word2(doc, 10 * r.0 + 2)
-}
-
-// How deep the row is: 0 for a root.
-pub fn level(doc: &[u8], r: Rank) -> usize
-    requires { ⌜ 10 * (r .0) + 10 ≤ length (now doc) ⌝ }
-    ensures { λ l. ⌜ (l ≡ Fields.levelAt (now (doc .entry)) (r .0)) × (l < 256) ⌝ }
-{
-    cells::byte(doc, 10 * r.0 + 4)
-}
-
-// 1 for an element, 3 for a text.
-pub fn kind(doc: &[u8], r: Rank) -> usize
-    requires { ⌜ 10 * (r .0) + 10 ≤ length (now doc) ⌝ }
-    ensures { λ k. ⌜ (k ≡ Fields.kindAt (now (doc .entry)) (r .0)) × (k < 256) ⌝ }
-{
-    cells::byte(doc, 10 * r.0 + 5)
-}
-
-// The name number of an element, the number of a text.
-pub fn prop(doc: &[u8], r: Rank) -> i32
-    requires { ⌜ 10 * (r .0) + 10 ≤ length (now doc) ⌝ }
-    ensures { λ p. ⌜ p ≡ Fields.propAt (now (doc .entry)) (r .0) ⌝ }
-{
-    cells::int4(doc, 10 * r.0 + 6)
-}
-
 // Whether a number is a name number, 0 to 65535.
 fn is_name(prop: i32) -> bool
     ensures { λ r. ⌜ r ≡ Catalogue.isName prop ⌝ }
@@ -74,14 +36,14 @@ fn is_name(prop: i32) -> bool
 
 // A text covers no rows and is no root.
 fn text_sound(size: usize, level: usize) -> bool
-    ensures { λ r. ⌜ r ≡ Fields.textSound size level ⌝ }
+    ensures { λ r. ⌜ r ≡ Kinds.textSound size level ⌝ }
 {
     if size == 0 { 1 <= level } else { false }
 }
 
 // An element has a name; a text is sound; there is no other kind.
 fn kind_sound(size: usize, level: usize, kind: usize, prop: i32) -> bool
-    ensures { λ r. ⌜ r ≡ Fields.kindSound size level kind prop ⌝ }
+    ensures { λ r. ⌜ r ≡ Kinds.kindSound size level kind prop ⌝ }
 {
     match kind {
         1 => is_name(prop),
@@ -98,14 +60,19 @@ fn own_row(doc: &[u8], r: Rank, most: usize) -> Row
         ≡ provided (Catalogue.ownSound (Catalogue.catalogueOf (now (doc .entry)) (r .0)) (r .0) most)
         (gives (Fields.levelAt (now (doc .entry)) (r .0))) ⌝ }
 {
-    let l = level(doc, r);
+    let l = doc_rows::level(doc, r);
     if most < l {
         return Row::Unsound;
     }
     if DEEPEST < l {
         return Row::Unsound;
     }
-    if kind_sound(size(doc, r), l, kind(doc, r), prop(doc, r)) {
+    if kind_sound(
+        doc_rows::size(doc, r),
+        l,
+        doc_rows::kind(doc, r),
+        doc_rows::prop(doc, r),
+    ) {
         Row::Level(l)
     } else {
         Row::Unsound
@@ -161,10 +128,10 @@ fn deeper(doc: &[u8], rows: usize, r: usize) -> usize
     ensures { λ s. ⌜ s ≡ Catalogue.deeper (Catalogue.catalogueOf (now (doc .entry)) rows)
         (Fields.levelAt (now (doc .entry)) r) (r + 1) (rows - (r + 1)) ⌝ }
 {
-    let l = level(doc, Rank(r));
+    let l = doc_rows::level(doc, Rank(r));
     let mut v = r + 1;
     while v < rows {
-        if level(doc, Rank(v)) <= l {
+        if doc_rows::level(doc, Rank(v)) <= l {
             return v - (r + 1);
         }
         v += 1;
@@ -181,7 +148,7 @@ fn sizes_exact(doc: &[u8], rows: usize) -> Checked
 {
     let mut r: usize = 0;
     while r < rows {
-        if size(doc, Rank(r)) != deeper(doc, rows, r) {
+        if doc_rows::size(doc, Rank(r)) != deeper(doc, rows, r) {
             return Checked::Unsound(10 * r);
         }
         r += 1;
@@ -198,41 +165,4 @@ pub fn check(doc: &[u8]) -> Checked
         return counted;
     };
     sizes_exact(doc, rows)
-}
-
-// The root of fragment k, counted from 1.
-pub fn root(doc: &[u8], rows: usize, k: usize) -> Found
-    requires { ⌜ (10 * rows ≤ length (now doc)) × (1 ≤ k) ⌝ }
-    ensures { λ f. ⌜ Answers.found f
-        ≡ World.member (World.roots (Catalogue.catalogueOf (now (doc .entry)) rows)) (k - 1) ⌝ }
-{
-    let mut left = k - 1;
-    let mut r: usize = 0;
-    while r < rows {
-        if level(doc, Rank(r)) != 0 {
-            r += 1;
-            continue;
-        }
-        if left == 0 {
-            return Found::At(Rank(r));
-        }
-        left -= 1;
-        r += 1;
-    }
-    Found::Nothing
-}
-
-// The root of the fragment that the row of rank r is in: the last row of level 0 up to it.
-pub fn fragment(doc: &[u8], r: Rank) -> Rank
-    requires { ⌜ 10 * (r .0) + 10 ≤ length (now doc) ⌝ }
-    ensures { λ f. ⌜ ((n : ℕ) → f .0 ≡ World.fragment (Catalogue.catalogueOf (now (doc .entry)) n) (r .0)) ⌝ }
-{
-    let mut v = r.0;
-    while 0 < v {
-        if level(doc, Rank(v)) == 0 {
-            return Rank(v);
-        }
-        v -= 1;
-    }
-    Rank(v)
 }

@@ -32,7 +32,7 @@ use Rattle.laws.specs.Attempt.{fails, gives, attempt, provided}
 use Rattle.meaning.specs.Catalogue.{Catalogue, catalogueOf}
 use Rattle.meaning.specs.World as World
 use Rattle.meaning.specs.World.{ranged, integerOf, valueIn, truthFrom, roots, member, rootOf}
-use Rattle.catalogue.specs.Fields.{kindAt, propAt}
+use Rattle.doc_rows.specs.Fields.{kindAt, propAt}
 use Rattle.items.specs.Answers.{number, holding, textValue, truthOf}
 
 pub number-ranged : (z : ℤ) → number (numberOf z) ≡ ranged z

@@ -93,10 +93,10 @@ fn text_value(doc: &[u8], rows: usize, r: Rank) -> Tried
     if rows <= r.0 {
         return Tried::Fails;
     }
-    if catalogue::kind(doc, r) != 3 {
+    if doc_rows::kind(doc, r) != 3 {
         return Tried::Fails;
     }
-    given(Number::Is(catalogue::prop(doc, r)))
+    given(Number::Is(doc_rows::prop(doc, r)))
 }
 
 // The value of an item.
@@ -128,8 +128,8 @@ pub fn root(doc: &[u8], rows: usize, k: usize) -> Tried
     requires { ⌜ (10 * rows ≤ length (now doc)) × (rows < 65536) × (1 ≤ k) ⌝ }
     ensures { λ t. ⌜ Answers.tried t ≡ World.rootOf (catalogueOf (now (doc .entry)) rows) k ⌝ }
 {
-    let found = catalogue::root(doc, rows, k);
-    let catalogue::Found::At(r) = found else {
+    let found = doc_rows::root(doc, rows, k);
+    let doc_rows::Found::At(r) = found else {
         return Tried::Fails;
     };
     Tried::Gives(cells::node_cell(r))

@@ -3,7 +3,7 @@ use Prim.Native.Nat.{_+_, _<_}
 use native.Mathlib.Omega.{arith}
 use mathlib.Core.Path.{_≡_, sym, _∙_}
 use Rattle.meaning.specs.Catalogue.{catalogueOf}
-use Rattle.catalogue.proofs.FieldLaws.{size-field}
+use Rattle.doc_rows.proofs.FieldLaws.{size-field}
 use Rattle.axes.proofs.end_of.Statement.{statement}
 use Rattle.axes.proofs.end_of.Tie as tie
 

@@ -2,7 +2,7 @@
 use native.Mathlib.Omega.{arith}
 use mathlib.Core.Path.{_≡_, sym, _∙_}
 use Rattle.meaning.specs.Catalogue.{catalogueOf}
-use Rattle.catalogue.proofs.FieldLaws.{level-field}
+use Rattle.doc_rows.proofs.FieldLaws.{level-field}
 use Rattle.axes.proofs.level_of.Statement.{statement}
 use Rattle.axes.proofs.level_of.Tie as tie
 

@@ -5,7 +5,7 @@ use native.Mathlib.Omega.{arith}
 use mathlib.Core.List.{List}
 use mathlib.Core.Path.{_≡_}
 use Rattle.meaning.specs.Catalogue.{catalogueOf, deeper}
-use Rattle.catalogue.specs.Fields.{levelAt}
+use Rattle.doc_rows.specs.Fields.{levelAt}
 use Rattle.catalogue.proofs.Turns.{count-end, count-stop, count-on}
 use Rattle.catalogue.proofs.deeper.Statement.{statement}
 use Rattle.catalogue.proofs.deeper.Tie as tie

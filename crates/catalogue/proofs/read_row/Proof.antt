@@ -9,7 +9,7 @@ use borrow.Author.Needs.{needs}
 use borrow.Author.Tests.{not-true, not-false, leb-true}
 use Rattle.cells.specs.Bytes.{fits}
 use Rattle.laws.specs.Attempt.{provided, gives}
-use Rattle.catalogue.specs.Fields.{levelAt}
+use Rattle.doc_rows.specs.Fields.{levelAt}
 use Rattle.catalogue.specs.Answers.{levelOf}
 use Rattle.catalogue.proofs.Turns.{row-cut, row-mark, row-own, row-none}
 use Rattle.catalogue.proofs.read_row.Statement.{statement}

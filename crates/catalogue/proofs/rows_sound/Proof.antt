@@ -9,9 +9,9 @@ use mathlib.Core.Path.{_≡_, refl, sym, ap, _∙_}
 use lib.ListN.{length}
 use borrow.Author.Needs.{needs}
 use Rattle.meaning.specs.Catalogue.{catalogueOf, rowSound, rowsSound}
-use Rattle.catalogue.specs.Fields.{levelAt}
+use Rattle.doc_rows.specs.Fields.{levelAt}
 use Rattle.catalogue.specs.Answers.{counted}
-use Rattle.catalogue.proofs.Rows.{row}
+use Rattle.doc_rows.proofs.Rows.{row}
 use Rattle.catalogue.proofs.Turns.{row-read, row-unread, turn-end, turn-over, turn-bad, turn-on}
 use Rattle.catalogue.proofs.rows_sound.Statement.{statement}
 use Rattle.catalogue.proofs.rows_sound.Tie as tie

@@ -4,7 +4,7 @@ use Prim.Native.Nat.{_<_}
 use native.Mathlib.Omega.{arith}
 use mir.Syntax.{w64}
 use Rattle.cells.proofs.Bits.{read-back}
-use Rattle.catalogue.specs.Answers.{found}
+use Rattle.doc_rows.specs.Answers.{found}
 use Rattle.laws.specs.Attempt.{gives}
 use Rattle.meaning.specs.Catalogue.{catalogueOf}
 use Rattle.items.specs.Answers.{tried}

@@ -19,7 +19,7 @@ use Rattle.laws.proofs.Lists.{rising-kept, rising-below}
 use Rattle.laws.specs.Attempt.{fails, gives, attempt}
 use Rattle.meaning.specs.Catalogue.{Catalogue}
 use Rattle.meaning.specs.World.{roots, member, rootOf}
-use Rattle.catalogue.specs.Ranks.{ranks, rootsFrom}
+use Rattle.doc_rows.specs.Ranks.{ranks, rootsFrom}
 
 ranks-last : (n r : ℕ) → ranks r (suc n) ≡ ranks r n ++ ((r + n) ∷ [])
 unfolding ranks

@@ -22,7 +22,7 @@ use Rattle.laws.specs.Attempt.{Reading, reads, refuses, unless}
 use Rattle.laws.proofs.Booleans.{both-true}
 use Rattle.meaning.specs.Catalogue.{Catalogue, catalogueOf, isName, ownSound, rowSound, rowsSound}
 use Rattle.meaning.specs.Catalogue.{element, text, markDN}
-use Rattle.catalogue.specs.Sound.{Own}
+use Rattle.doc_rows.specs.Sound.{Own}
 
 module _ (doc : List ℕ) (r most : ℕ) where
   pub rows-end : (left : ℕ) → length doc ≤ 10 * r → rowsSound left doc r most ≡ reads r

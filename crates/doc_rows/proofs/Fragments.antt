@@ -16,7 +16,7 @@ use mathlib.Core.Path.{_≡_, refl, sym, _∙_, ap}
 use borrow.Author.Tests.{eq-eqb, ne-eqb}
 use Rattle.meaning.specs.Catalogue.{Catalogue}
 use Rattle.meaning.specs.World.{fragment}
-use Rattle.catalogue.specs.Nested.{Nested}
+use Rattle.doc_rows.specs.Nested.{Nested}
 
 module _ (c : Catalogue) where
   pub fragment-here : (r : ℕ) → c .level r ≡ 0 → fragment c r ≡ r

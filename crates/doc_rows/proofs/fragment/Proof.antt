@@ -6,9 +6,9 @@ use mathlib.Core.List.{List}
 use mathlib.Core.Path.{_≡_, refl, _∙_}
 use Rattle.meaning.specs.Catalogue.{catalogueOf}
 use Rattle.meaning.specs.World.{fragment}
-use Rattle.catalogue.proofs.Turns.{fragment-first, fragment-found, fragment-back}
-use Rattle.catalogue.proofs.fragment.Statement.{statement}
-use Rattle.catalogue.proofs.fragment.Tie as tie
+use Rattle.doc_rows.proofs.Turns.{fragment-first, fragment-found, fragment-back}
+use Rattle.doc_rows.proofs.fragment.Statement.{statement}
+use Rattle.doc_rows.proofs.fragment.Tie as tie
 
 abbrev Inv-loop : tie.InvT-loop
 Inv-loop doc v₀ v = (v ≤ v₀) × ((n : ℕ) → fragment (catalogueOf doc n) v ≡ fragment (catalogueOf doc n) v₀)

@@ -12,7 +12,7 @@ use lib.Dec.{eqb}
 use borrow.Author.Tests.{le-ltb, lt-ltb, eqb-true}
 use Rattle.laws.specs.Attempt.{reads}
 use Rattle.meaning.specs.Catalogue.{Catalogue, deeper, sizesExact}
-use Rattle.catalogue.proofs.Rows.{unless-reads}
+use Rattle.doc_rows.proofs.Rows.{unless-reads}
 
 module _ (c : Catalogue) (l : ℕ) where
   pub deeper-none : (r n : ℕ) → c .level r ≤ l → deeper c l r (suc n) ≡ 0

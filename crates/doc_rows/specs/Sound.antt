@@ -18,7 +18,7 @@ use lib.IntN.{pos}
 use lib.ListN.{length}
 use Rattle.cells.specs.Cell.{inRange}
 use Rattle.meaning.specs.Catalogue.{Catalogue, catalogueOf, element, text}
-use Rattle.catalogue.specs.Nested.{Nested}
+use Rattle.doc_rows.specs.Nested.{Nested}
 
 -- row r is an element or a text; an element has a name; a text has size 0 and level at least 1
 pub record Own (c : Catalogue) (r most : ℕ) : Type 0 where

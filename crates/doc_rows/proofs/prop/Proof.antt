@@ -3,9 +3,9 @@ use mathlib.Core.Path.{_∙_}
 use mir.Facts.{toZ-ofZ}
 use mir.Syntax.{w32}
 use borrow.Author.Needs.{needs}
-use Rattle.catalogue.specs.Fields.{propAt}
-use Rattle.catalogue.proofs.prop.Statement.{statement}
-use Rattle.catalogue.proofs.prop.Tie as tie
+use Rattle.doc_rows.specs.Fields.{propAt}
+use Rattle.doc_rows.proofs.prop.Statement.{statement}
+use Rattle.doc_rows.proofs.prop.Tie as tie
 
 mul-int4 : tie.Need-mul-int4
 mul-int4 c = search needs

@@ -1,8 +1,8 @@
 -- `kind` reads a row's kind: the byte after the level.
 use borrow.Author.Needs.{needs}
-use Rattle.catalogue.specs.Fields.{kindAt}
-use Rattle.catalogue.proofs.kind.Statement.{statement}
-use Rattle.catalogue.proofs.kind.Tie as tie
+use Rattle.doc_rows.specs.Fields.{kindAt}
+use Rattle.doc_rows.proofs.kind.Statement.{statement}
+use Rattle.doc_rows.proofs.kind.Tie as tie
 
 mul-byte : tie.Need-mul-byte
 mul-byte c = search needs

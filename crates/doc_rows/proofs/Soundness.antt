@@ -1,7 +1,9 @@
 -- What a catalogue that passes the check is (document 01, 'Catalogue rows').
---     ranged     every number in a row is an integer
---     nested     sizes and levels fit together
---     sound      all that the check promises
+--     ranged            every number in a row is an integer
+--     nested            sizes and levels fit together
+--     sound             all that the check promises
+--     nested-fields     what a sound catalogue gives, over the fields that code reads
+--     row-room          the rows of a sound catalogue are all there
 use Prim.Native.Nat.{ℕ, zero, suc, _+_, _*_, _-_, _≤_, _<_}
 use native.Mathlib.Omega.{arith}
 use mathlib.Core.Bool.{Bool, true, false, cond}
@@ -15,10 +17,11 @@ use Rattle.cells.specs.Bytes.{int4, signed, word, byteAt}
 use Rattle.cells.specs.Cell.{inRange}
 use Rattle.laws.specs.Attempt.{Reading, reads, refuses, reading}
 use Rattle.meaning.specs.Catalogue.{Catalogue, catalogueOf, deeper, rowsSound, sizesExact, catalogueRead}
-use Rattle.catalogue.specs.Nested.{Nested}
-use Rattle.catalogue.specs.Sound.{Own, Sound}
-use Rattle.catalogue.proofs.Rows.{Passed, passed, row}
-use Rattle.catalogue.proofs.Sizes.{Exact, sizes, deeper-few, deeper-in, deeper-end}
+use Rattle.doc_rows.specs.Fields.{sizeAt, levelAt}
+use Rattle.doc_rows.specs.Nested.{Nested}
+use Rattle.doc_rows.specs.Sound.{Own, Sound}
+use Rattle.doc_rows.proofs.Rows.{Passed, passed, row}
+use Rattle.doc_rows.proofs.Sizes.{Exact, sizes, deeper-few, deeper-in, deeper-end}
 
 signed-ranged : (u : ℕ) → inRange (signed 0x8000_0000 u) ≡ true
 unfolding signed inRange
@@ -104,3 +107,12 @@ sound doc c e =
     let t = sizes n (catalogueOf doc n) 0 c (s .2) in
     subst (Sound doc) (sym (t .0))
     (sound-rows (catalogueOf doc n) (rows-of doc n p (t .1)) doc refl (omega (arith, p .few)) (p .whole))
+
+module _ (doc : List ℕ) (n : ℕ) (s : Sound doc (catalogueOf doc n)) where
+  pub nested-fields : Nested n (sizeAt doc) (levelAt doc)
+  unfolding catalogueOf sizeAt levelAt
+  nested-fields = s .nested
+
+  pub row-room : (r : ℕ) → r < n → 10 * r + 10 ≤ length doc
+  unfolding catalogueOf
+  row-room r h = omega (arith, s .whole)

@@ -6,11 +6,11 @@ use mathlib.Core.List.{List}
 use mathlib.Core.Path.{_≡_, sym, _∙_}
 use Rattle.meaning.specs.Catalogue.{catalogueOf}
 use Rattle.meaning.specs.World.{roots, member}
-use Rattle.catalogue.specs.Answers.{found}
-use Rattle.catalogue.specs.Ranks.{rootsFrom}
-use Rattle.catalogue.proofs.Turns.{root-start, root-end, root-skip, root-here, root-next}
-use Rattle.catalogue.proofs.root.Statement.{statement}
-use Rattle.catalogue.proofs.root.Tie as tie
+use Rattle.doc_rows.specs.Answers.{found}
+use Rattle.doc_rows.specs.Ranks.{rootsFrom}
+use Rattle.doc_rows.proofs.Turns.{root-start, root-end, root-skip, root-here, root-next}
+use Rattle.doc_rows.proofs.root.Statement.{statement}
+use Rattle.doc_rows.proofs.root.Tie as tie
 
 abbrev Inv-loop : tie.InvT-loop
 Inv-loop doc rows k left₀ r₀ left r =

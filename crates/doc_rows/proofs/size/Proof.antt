@@ -1,8 +1,8 @@
 -- `size` reads a row's size: the two bytes after the mark.
 use borrow.Author.Needs.{needs}
-use Rattle.catalogue.specs.Fields.{sizeAt}
-use Rattle.catalogue.proofs.size.Statement.{statement}
-use Rattle.catalogue.proofs.size.Tie as tie
+use Rattle.doc_rows.specs.Fields.{sizeAt}
+use Rattle.doc_rows.proofs.size.Statement.{statement}
+use Rattle.doc_rows.proofs.size.Tie as tie
 
 mul-word2 : tie.Need-mul-word2
 mul-word2 c = search needs

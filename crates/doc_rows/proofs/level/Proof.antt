@@ -1,8 +1,8 @@
 -- `level` reads a row's level: the byte after the size.
 use borrow.Author.Needs.{needs}
-use Rattle.catalogue.specs.Fields.{levelAt}
-use Rattle.catalogue.proofs.level.Statement.{statement}
-use Rattle.catalogue.proofs.level.Tie as tie
+use Rattle.doc_rows.specs.Fields.{levelAt}
+use Rattle.doc_rows.proofs.level.Statement.{statement}
+use Rattle.doc_rows.proofs.level.Tie as tie
 
 mul-byte : tie.Need-mul-byte
 mul-byte c = search needs

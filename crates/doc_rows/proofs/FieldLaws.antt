@@ -5,7 +5,7 @@ use Prim.Native.Nat.{ℕ}
 use mathlib.Core.List.{List}
 use mathlib.Core.Path.{_≡_, refl}
 use Rattle.meaning.specs.Catalogue.{catalogueOf}
-use Rattle.catalogue.specs.Fields.{sizeAt, levelAt, kindAt, propAt}
+use Rattle.doc_rows.specs.Fields.{sizeAt, levelAt, kindAt, propAt}
 
 module _ (doc : List ℕ) (n : ℕ) where
   pub fields : catalogueOf doc n
