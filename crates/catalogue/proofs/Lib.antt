@@ -1,4 +1,3 @@
-pub mod OwnFields
 pub mod Turns
 pub mod Accepted
 pub mod Decided

@@ -12,7 +12,8 @@ use Rattle.meaning.specs.Catalogue.{catalogueOf, rowSound, rowsSound}
 use Rattle.doc_rows.specs.Fields.{levelAt}
 use Rattle.catalogue.specs.Answers.{counted}
 use Rattle.doc_rows.proofs.Rows.{row}
-use Rattle.catalogue.proofs.Turns.{row-read, row-unread, turn-end, turn-over, turn-bad, turn-on}
+use Rattle.sound_rows.proofs.Tests.{row-read, row-unread}
+use Rattle.catalogue.proofs.Turns.{turn-end, turn-over, turn-bad, turn-on}
 use Rattle.catalogue.proofs.rows_sound.Statement.{statement}
 use Rattle.catalogue.proofs.rows_sound.Tie as tie
 

@@ -3,9 +3,9 @@ use mathlib.Core.Path.{_∙_, ap}
 use mir.Facts.{toZ-ofZ}
 use borrow.Author.Needs.{needs}
 use Rattle.meaning.specs.Catalogue.{isName}
-use Rattle.catalogue.proofs.OwnFields.{kind-element, kind-text, kind-other}
-use Rattle.catalogue.proofs.kind_sound.Statement.{statement}
-use Rattle.catalogue.proofs.kind_sound.Tie as tie
+use Rattle.sound_rows.proofs.OwnFields.{kind-element, kind-text, kind-other}
+use Rattle.sound_rows.proofs.kind_sound.Statement.{statement}
+use Rattle.sound_rows.proofs.kind_sound.Tie as tie
 
 is-name-requires : tie.Need-is-name-requires
 is-name-requires c κs = search needs

@@ -1,7 +1,7 @@
 -- `text_sound` tests a text's size and level.
-use Rattle.catalogue.proofs.OwnFields.{text-empty, text-covers}
-use Rattle.catalogue.proofs.text_sound.Statement.{statement}
-use Rattle.catalogue.proofs.text_sound.Tie as tie
+use Rattle.sound_rows.proofs.OwnFields.{text-empty, text-covers}
+use Rattle.sound_rows.proofs.text_sound.Statement.{statement}
+use Rattle.sound_rows.proofs.text_sound.Tie as tie
 
 returns : tie.Need-returns
 returns c = text-empty (c .before .args .size) (c .before .args .level) (c .if1 .taken)

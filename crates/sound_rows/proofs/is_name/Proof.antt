@@ -3,9 +3,9 @@ use mathlib.Core.Path.{_≡_}
 use mir.Syntax.{w32}
 use mir.Val.{toZ, ofZ}
 use mir.Facts.{toZ-ofZ}
-use Rattle.catalogue.proofs.OwnFields.{not-name, name}
-use Rattle.catalogue.proofs.is_name.Statement.{statement}
-use Rattle.catalogue.proofs.is_name.Tie as tie
+use Rattle.sound_rows.proofs.OwnFields.{not-name, name}
+use Rattle.sound_rows.proofs.is_name.Statement.{statement}
+use Rattle.sound_rows.proofs.is_name.Tie as tie
 
 -- the number that the tests look at is the one that came in
 back : (c : tie.Start) → toZ w32 (ofZ w32 (c .args .prop)) ≡ c .args .prop

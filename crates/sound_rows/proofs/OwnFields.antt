@@ -11,7 +11,7 @@ use lib.IntN.{ℤ, pos, negsuc}
 use lib.Signed.{ltZ}
 use borrow.Author.Tests.{ltb-true, eq-eqb, ne-eqb}
 use Rattle.meaning.specs.Catalogue.{isName, element, text}
-use Rattle.catalogue.specs.Kinds.{textSound, kindSound}
+use Rattle.sound_rows.specs.Kinds.{textSound, kindSound}
 
 pub not-name : (z : ℤ) → ltZ z (pos 0) ≡ true → false ≡ isName z
 unfolding isName

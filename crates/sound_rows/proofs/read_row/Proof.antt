@@ -10,10 +10,10 @@ use borrow.Author.Tests.{not-true, not-false, leb-true}
 use Rattle.cells.specs.Bytes.{fits}
 use Rattle.laws.specs.Attempt.{provided, gives}
 use Rattle.doc_rows.specs.Fields.{levelAt}
-use Rattle.catalogue.specs.Answers.{levelOf}
-use Rattle.catalogue.proofs.Turns.{row-cut, row-mark, row-own, row-none}
-use Rattle.catalogue.proofs.read_row.Statement.{statement}
-use Rattle.catalogue.proofs.read_row.Tie as tie
+use Rattle.sound_rows.specs.Answers.{levelOf}
+use Rattle.sound_rows.proofs.Tests.{row-cut, row-mark, row-own, row-none}
+use Rattle.sound_rows.proofs.read_row.Statement.{statement}
+use Rattle.sound_rows.proofs.read_row.Tie as tie
 
 abbrev bytes : tie.Start → List ℕ
 bytes c = c .args .doc .now

@@ -5,10 +5,10 @@ use Rattle.meaning.specs.Catalogue.{catalogueOf, ownSound}
 use mir.Facts.{toZ-ofZ}
 use mir.Syntax.{w32}
 use borrow.Author.Needs.{needs}
-use Rattle.catalogue.specs.Answers.{levelOf}
-use Rattle.catalogue.proofs.Turns.{own-read, own-deep, own-far, row-none, row-some}
-use Rattle.catalogue.proofs.own_row.Statement.{statement}
-use Rattle.catalogue.proofs.own_row.Tie as tie
+use Rattle.sound_rows.specs.Answers.{levelOf}
+use Rattle.sound_rows.proofs.Tests.{own-read, own-deep, own-far, row-none, row-some}
+use Rattle.sound_rows.proofs.own_row.Statement.{statement}
+use Rattle.sound_rows.proofs.own_row.Tie as tie
 
 level-requires : tie.Need-level-requires
 level-requires c κs = search needs
