@@ -1,7 +1,7 @@
 // A plan's operators added one by one, as the rules of the translation add them.
-use cells::Axis;
-use cells::Function;
-use cells::Test;
+use codes::Axis;
+use codes::Function;
+use codes::Test;
 use writing::Columns;
 use writing::Keys;
 ghost use mathlib.Core.Path.{_≡_};

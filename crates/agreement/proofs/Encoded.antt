@@ -19,8 +19,8 @@ use lib.Dec.{eqb}
 use lib.IntN.{ℤ, pos}
 use lib.ListN.{length, length-map}
 use Rattle.cells.specs.Cell.{same, trueCell, truthCell}
-use Rattle.cells.specs.declared.Axis.{Axis}
-use Rattle.cells.specs.declared.Test.{Test}
+use Rattle.codes.specs.declared.Axis.{Axis}
+use Rattle.codes.specs.declared.Test.{Test}
 use Rattle.laws.specs.Lists.{filter, any, firsts}
 use Rattle.laws.specs.Sorting.{sort}
 use Rattle.laws.specs.Keyed.{Key, risingBy, countedAfter, counted, joined, numbersIn, within, without, unique}

@@ -13,7 +13,7 @@ use mathlib.Core.Logic.{inl, inr}
 use mathlib.Core.List.{List, [], _∷_, _++_, map}
 use mathlib.Core.Bool.{true, false}
 use lib.IntN.{ℤ}
-use Rattle.cells.specs.declared.Function.{Function}
+use Rattle.codes.specs.declared.Function.{Function}
 use Rattle.laws.specs.Lists.{gather, All, In}
 use Rattle.laws.specs.Keyed.{within, joined, unique}
 use Rattle.laws.proofs.Filters.{in-none, tails, no-cons}

@@ -14,8 +14,8 @@ use lib.Dec.{eqb, ltb, leb}
 use lib.IntN.{ℤ}
 use lib.ListN.{length, getD, length-append, length-map}
 use Rattle.cells.specs.Cell.{same}
-use Rattle.cells.specs.declared.Axis.{Axis}
-use Rattle.cells.specs.declared.Test.{Test}
+use Rattle.codes.specs.declared.Axis.{Axis}
+use Rattle.codes.specs.declared.Test.{Test}
 use Rattle.laws.specs.Lists.{filter, gather, All}
 use Rattle.laws.proofs.Lists.{all-map, all-any, all-append, all-kept, all-mapped}
 use Rattle.laws.proofs.Filters.{map-append}

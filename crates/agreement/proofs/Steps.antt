@@ -13,8 +13,8 @@ use mathlib.Core.List.{List, [], _∷_, map, map-map}
 use mathlib.Core.Bool.{true, cond}
 use lib.Dec.{eqb}
 use lib.IntN.{ℤ}
-use Rattle.cells.specs.declared.Axis.{Axis}
-use Rattle.cells.specs.declared.Test.{Test}
+use Rattle.codes.specs.declared.Axis.{Axis}
+use Rattle.codes.specs.declared.Test.{Test}
 use Rattle.laws.specs.Lists.{firsts, All, Rising}
 use Rattle.laws.specs.Sorting.{sort, Sorted}
 use Rattle.laws.specs.Keyed.{Key, risingBy, within, numbersIn, filled}

@@ -43,9 +43,9 @@ use lib.Dec.{eqb}
 use lib.IntN.{ℤ, pos}
 use lib.ListN.{length}
 use Rattle.cells.specs.Cell.{same, before}
-use Rattle.cells.specs.declared.Function.{Function}
-use Rattle.cells.specs.declared.Axis.{Axis}
-use Rattle.cells.specs.declared.Test.{Test}
+use Rattle.codes.specs.declared.Function.{Function}
+use Rattle.codes.specs.declared.Axis.{Axis}
+use Rattle.codes.specs.declared.Test.{Test}
 use Rattle.laws.specs.Lists.{filter}
 use Rattle.laws.specs.Sorting.{sort}
 use Rattle.laws.specs.Keyed.{Key, risingBy, counted, joined, numbersIn, within, without, unique}

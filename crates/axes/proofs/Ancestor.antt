@@ -14,7 +14,7 @@ use native.Mathlib.Omega.{arith}
 use lib.Dec.{leb}
 use lib.ListN.{getD}
 use borrow.Author.Tests.{leb-true, le-leb}
-use Rattle.cells.specs.declared.Axis.the-variants.{Ancestor}
+use Rattle.codes.specs.declared.Axis.the-variants.{Ancestor}
 use Rattle.laws.specs.Lists.{any}
 use Rattle.laws.proofs.Booleans.{clash}
 use Rattle.meaning.specs.Catalogue.{Catalogue}

@@ -9,7 +9,7 @@ use mathlib.Core.Path.{_≡_}
 use mathlib.Core.Bool.{true}
 use lib.Dec.{eqb, ltb, leb}
 use borrow.Author.Tests.{eqb-true, eq-eqb, ltb-true, lt-ltb, leb-true, le-leb}
-use Rattle.cells.specs.declared.Axis.{Axis}
+use Rattle.codes.specs.declared.Axis.{Axis}
 use Rattle.meaning.specs.Catalogue.{Catalogue}
 use Rattle.meaning.specs.World.{fragment, isDescendant, isChild, axisHolds, onAxis}
 use Rattle.laws.proofs.Booleans.{both-true}

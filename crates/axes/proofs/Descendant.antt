@@ -15,7 +15,7 @@ use native.Mathlib.Omega.{arith}
 use lib.Dec.{eqb, ltb, leb}
 use lib.ListN.{getD}
 use borrow.Author.Tests.{eqb-true, eq-eqb, ltb-true, lt-ltb, leb-true, leb-false}
-use Rattle.cells.specs.declared.Axis.the-variants.{Descendant, DescendantOrSelf}
+use Rattle.codes.specs.declared.Axis.the-variants.{Descendant, DescendantOrSelf}
 use Rattle.laws.specs.Lists.{any}
 use Rattle.laws.proofs.Booleans.{clash}
 use Rattle.meaning.specs.Catalogue.{Catalogue}

@@ -17,7 +17,7 @@ use native.Mathlib.Omega.{arith}
 use lib.Dec.{eqb, ltb}
 use lib.ListN.{getD}
 use borrow.Author.Tests.{eqb-true, eqb-false, ltb-true, ltb-false, lt-ltb}
-use Rattle.cells.specs.declared.Axis.the-variants.{Following}
+use Rattle.codes.specs.declared.Axis.the-variants.{Following}
 use Rattle.laws.specs.Lists.{any}
 use Rattle.laws.proofs.Booleans.{clash}
 use Rattle.meaning.specs.Catalogue.{Catalogue}

@@ -6,7 +6,7 @@ use mathlib.Core.List.{List}
 use mathlib.Core.Bool.{Bool, false}
 use lib.ListN.{getD}
 use borrow.Author.Tests.{eqb-true, eq-eqb}
-use Rattle.cells.specs.declared.Axis.the-variants.{Itself}
+use Rattle.codes.specs.declared.Axis.the-variants.{Itself}
 use Rattle.laws.specs.Lists.{any}
 use Rattle.meaning.specs.Catalogue.{Catalogue}
 use Rattle.meaning.specs.World.{axisHolds, onAxis}

@@ -12,8 +12,8 @@ use native.Mathlib.Omega.{arith}
 use lib.ListN.{length, getD, set, length-set}
 use lib.Seq.{getD-set-same, getD-set-other}
 use Rattle.laws.specs.Lists.{any}
-use Rattle.cells.specs.declared.Axis.{Axis}
-use Rattle.cells.specs.declared.Test.{Test}
+use Rattle.codes.specs.declared.Axis.{Axis}
+use Rattle.codes.specs.declared.Test.{Test}
 use Rattle.meaning.specs.Catalogue.{catalogueOf}
 use Rattle.meaning.specs.World.{onAxis, passes}
 use Rattle.axes.specs.Steps.{Marks, Part}

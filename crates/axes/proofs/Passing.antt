@@ -10,8 +10,8 @@ use borrow.Author.Tests.{eq-eqb, ne-eqb, lt-ltb, le-ltb}
 use lib.IntN.{pos, negsuc}
 use Rattle.cells.specs.Bytes.{word, signed, int4}
 use Rattle.cells.specs.Cell.{same}
-use Rattle.cells.specs.declared.Test.{Test}
-use Rattle.cells.specs.declared.Test.the-variants.{AnyNode, Element, Text, Named}
+use Rattle.codes.specs.declared.Test.{Test}
+use Rattle.codes.specs.declared.Test.the-variants.{AnyNode, Element, Text, Named}
 use Rattle.meaning.specs.Catalogue.{catalogueOf}
 use Rattle.meaning.specs.World.{passes}
 use Rattle.doc_rows.specs.Fields.{kindAt}

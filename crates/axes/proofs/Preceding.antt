@@ -15,7 +15,7 @@ use native.Mathlib.Omega.{arith}
 use lib.Dec.{eqb, ltb}
 use lib.ListN.{getD}
 use borrow.Author.Tests.{eqb-true, eqb-false, ltb-true, lt-ltb}
-use Rattle.cells.specs.declared.Axis.the-variants.{Preceding}
+use Rattle.codes.specs.declared.Axis.the-variants.{Preceding}
 use Rattle.laws.specs.Lists.{any}
 use Rattle.laws.proofs.Booleans.{clash}
 use Rattle.meaning.specs.Catalogue.{Catalogue}

@@ -15,9 +15,9 @@ use mathlib.Core.List.{List}
 use mathlib.Core.Bool.{Bool, false, cond, _&&_}
 use lib.ListN.{length, getD}
 use Rattle.laws.specs.Lists.{any}
-use Rattle.cells.specs.declared.Axis.{Axis}
-use Rattle.cells.specs.declared.Axis.the-variants.{Descendant, DescendantOrSelf}
-use Rattle.cells.specs.declared.Test.{Test}
+use Rattle.codes.specs.declared.Axis.{Axis}
+use Rattle.codes.specs.declared.Axis.the-variants.{Descendant, DescendantOrSelf}
+use Rattle.codes.specs.declared.Test.{Test}
 use Rattle.meaning.specs.Catalogue.{catalogueOf}
 use Rattle.meaning.specs.World.{onAxis, passes}
 use Rattle.doc_rows.specs.Nested.{Nested}

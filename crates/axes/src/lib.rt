@@ -1,13 +1,13 @@
 // Steps over mark sets: a step takes the marks of its contexts and leaves the marks of the nodes that it reaches, in
 // one pass over the rows for each axis.
-use cells::Axis;
 use cells::Rank;
-use cells::Test;
+use codes::Axis;
+use codes::Test;
 ghost use Prim.Native.Nat.{ℕ, _+_, _*_, _≤_, _<_};
 ghost use mathlib.Core.Path.{_≡_};
 ghost use mathlib.Core.Bool.{cond, _&&_};
 ghost use lib.ListN.{length};
-ghost use Rattle.cells.specs.declared.Axis.the-variants as Axes;
+ghost use Rattle.codes.specs.declared.Axis.the-variants as Axes;
 ghost use Rattle.meaning.specs.Catalogue.{catalogueOf};
 ghost use Rattle.meaning.specs.World;
 ghost use Rattle.axes.specs.Steps.{Known, Ready, Step, orSelf};

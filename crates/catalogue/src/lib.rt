@@ -1,6 +1,6 @@
 // The catalogue's check: every row, then the sizes.
 use cells::Rank;
-use cells::limits::ROWS;
+use codes::limits::ROWS;
 use sound_rows::Row;
 ghost use mathlib.Core.Path.{_≡_};
 ghost use Prim.Native.Nat.{_+_, _*_, _-_, _≤_, _<_};

@@ -4,5 +4,4 @@ pub mod Holding
 pub mod Cells
 pub mod Bytes
 pub mod Arithmetic
-pub mod Numbers
 pub mod Cut

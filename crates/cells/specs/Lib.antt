@@ -2,5 +2,3 @@ pub mod Cell
 pub mod Bytes
 pub mod Small
 pub mod Arithmetic
-pub mod Codes
-pub mod Limits

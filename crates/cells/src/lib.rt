@@ -1,7 +1,4 @@
-// The words of document 01 that code and definitions share, and the cells that hold items.
-pub mod codes;
-pub mod limits;
-pub mod marks;
+// Items, the cells that hold them, the numbers that bytes hold, and every signed operation.
 
 // The preorder rank of a node: the number of its row.
 pub struct Rank(pub usize);
@@ -17,36 +14,6 @@ pub enum Item {
 pub enum Held {
     Item(Item),
     Stray,
-}
-
-// The functions of QO and RF.
-pub enum Function {
-    Add,
-    Subtract,
-    Multiply,
-    Divide,
-    Equal,
-    Less,
-}
-
-// The axes of a step.
-pub enum Axis {
-    Child,
-    Descendant,
-    DescendantOrSelf,
-    Itself,
-    Parent,
-    Ancestor,
-    Following,
-    Preceding,
-}
-
-// The tests of a step.
-pub enum Test {
-    AnyNode,
-    Element,
-    Text,
-    Named(usize),
 }
 
 // What arithmetic gives: an integer, or none where the divisor is zero or the result is outside the range.

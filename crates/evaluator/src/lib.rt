@@ -1,5 +1,5 @@
 // The step-by-step evaluator: the checks, the work of crates/working, and the answer.
-use cells::limits::LEVELS;
+use codes::limits::LEVELS;
 use stack::Stood;
 use working::Scope;
 ghost use mathlib.Core.Path.{_≡_};

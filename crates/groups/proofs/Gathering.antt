@@ -13,8 +13,8 @@ use native.Mathlib.Omega.{arith}
 use lib.IntN.{ℤ, pos}
 use lib.ListN.{length}
 use Rattle.cells.specs.Cell.{same, nodeCell, truthCell}
-use Rattle.cells.specs.declared.Axis.{Axis}
-use Rattle.cells.specs.declared.Test.{Test}
+use Rattle.codes.specs.declared.Axis.{Axis}
+use Rattle.codes.specs.declared.Test.{Test}
 use Rattle.cells.proofs.Cells.{same-eq, same-refl}
 use Rattle.laws.specs.Lists.{filter, all, firsts}
 use Rattle.laws.specs.Rows.{laid}

@@ -11,8 +11,8 @@ ghost use Rattle.meaning.specs.Operators;
 ghost use Rattle.meaning.specs.World.{worldOf};
 ghost use Rattle.axes.specs.Steps.{Ready};
 ghost use Rattle.tables.specs.Layout.{tableAt, Inside, Owes};
-use cells::Axis;
-use cells::Test;
+use codes::Axis;
+use codes::Test;
 use tables::Laid;
 use tables::Stand;
 

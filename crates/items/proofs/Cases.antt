@@ -19,7 +19,7 @@ use lib.Signed.{quotZ}
 use borrow.Author.Tests.{lt-ltb, le-ltb, eq-eqb, ne-eqb}
 use Rattle.cells.specs.Cell.{same, inRange, held, nodeCell}
 use Rattle.cells.specs.Arithmetic.{numberOf, quotientOf}
-use Rattle.cells.specs.declared.Function.{Function}
+use Rattle.codes.specs.declared.Function.{Function}
 use Rattle.cells.specs.declared.Number.the-variants as Number
 use Rattle.cells.specs.declared.Item.{Item}
 use Rattle.cells.specs.declared.Item.the-variants.{Integer, Truth, Node}

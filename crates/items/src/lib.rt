@@ -1,10 +1,10 @@
 // Arithmetic, values, roots and truth of cells (document 01, 'Query records'). The plan's operators and the evaluator
 // both stand on these.
-use cells::Function;
 use cells::Held;
 use cells::Item;
 use cells::Number;
 use cells::Rank;
+use codes::Function;
 ghost use mathlib.Core.Path.{_≡_};
 ghost use Prim.Native.Nat.{_*_, _≤_, _<_};
 ghost use lib.ListN.{length};

@@ -1,5 +1,5 @@
 // The cells that a call is lent: how many of them count, and how they are copied and cleared.
-use cells::limits::CELLS;
+use codes::limits::CELLS;
 ghost use mathlib.Core.Path.{_≡_};
 ghost use Prim.Native.Nat.{_+_, _≤_};
 ghost use lib.IntN.{pos};

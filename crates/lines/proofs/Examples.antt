@@ -6,7 +6,7 @@ use mathlib.Core.Path.{_≡_, refl}
 use mathlib.Core.List.{List, [], _∷_}
 use Prim.Native.Nat.{ℕ}
 use lib.IntN.{pos, negsuc}
-use Rattle.cells.specs.Codes as Codes
+use Rattle.codes.specs.Codes as Codes
 use Rattle.laws.specs.Lists as Lists
 use Rattle.laws.specs.Rows as Rows
 use Rattle.laws.specs.Rows as Rows

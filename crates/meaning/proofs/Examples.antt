@@ -14,7 +14,7 @@ use mathlib.Core.Path.{_≡_, refl}
 use mathlib.Core.List.{List, [], _∷_, _++_, map}
 use lib.IntN.{ℤ, pos, negsuc}
 use lib.ListN.{take, drop, getD}
-use Rattle.cells.specs.Codes as Codes
+use Rattle.codes.specs.Codes as Codes
 use Rattle.laws.specs.Lists as Lists
 use Rattle.laws.specs.Rows as Rows
 use Rattle.laws.specs.Sorting as Sorting

@@ -21,7 +21,7 @@ use mathlib.Core.Bool.{Bool, true, false, cond}
 use lib.Dec.{leb}
 use lib.IntN.{ℤ, pos}
 use lib.ListN.{length, replicate}
-use Rattle.cells.specs.Limits.{mostOperators, mostCells}
+use Rattle.codes.specs.Limits.{mostOperators, mostCells}
 use Rattle.laws.specs.Lists.{gather}
 use Rattle.laws.specs.Rows.{flat, padded}
 use Rattle.laws.specs.Attempt.{Reading, refuses, reads, reading, unless, Work, full, failed, done}

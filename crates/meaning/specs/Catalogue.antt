@@ -17,7 +17,7 @@ use lib.Dec.{ltb, leb, eqb}
 use lib.IntN.{ℤ, pos, negsuc}
 use lib.ListN.{length}
 use Rattle.cells.specs.Bytes.{byteAt, word, int4, fits}
-use Rattle.cells.specs.Limits.{mostRows, deepest}
+use Rattle.codes.specs.Limits.{mostRows, deepest}
 use Rattle.laws.specs.Attempt.{Reading, refuses, reads, reading, unless}
 
 pub record Catalogue : Type 0 where

@@ -11,7 +11,7 @@ use lib.Dec.{eqb}
 use lib.IntN.{ℤ, pos}
 use lib.ListN.{length}
 use Rattle.laws.specs.Attempt.{Attempt, fails, gives, attempt, each}
-use Rattle.cells.specs.declared.Function.{Function}
+use Rattle.codes.specs.declared.Function.{Function}
 use Rattle.meaning.specs.World.{World}
 use Rattle.meaning.specs.Query.{Query, QL, QE, QR, QV, QS, QT, QF, QI, QO, QC, QD, QX}
 

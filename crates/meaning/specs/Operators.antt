@@ -33,9 +33,9 @@ use Rattle.cells.specs.Cell.{same, before, trueCell, truthCell}
 use Rattle.laws.specs.Lists.{filter, any, count, gather, firsts}
 use Rattle.laws.specs.Sorting.{sort}
 use Rattle.laws.specs.Attempt.{Attempt, fails, gives, attempt, provided, each}
-use Rattle.cells.specs.declared.Function.{Function}
-use Rattle.cells.specs.declared.Axis.{Axis}
-use Rattle.cells.specs.declared.Test.{Test}
+use Rattle.codes.specs.declared.Function.{Function}
+use Rattle.codes.specs.declared.Axis.{Axis}
+use Rattle.codes.specs.declared.Test.{Test}
 use Rattle.meaning.specs.World.{World}
 use Rattle.meaning.specs.Plan.{Op, RT, RA, RP, RU, RD, RS, RJ, RN, RF, RV, RC, RE, RK, RX, RO}
 

@@ -34,12 +34,12 @@ use Rattle.cells.specs.Cell.{held}
 use Rattle.laws.specs.Lists.{all}
 use Rattle.laws.specs.Attempt.{Attempt, fails, gives, attempt, provided, Reading, refuses, reads, reading, refusing}
 use Rattle.laws.specs.Attempt.{unless}
-use Rattle.cells.specs.declared.Function.{Function}
-use Rattle.cells.specs.declared.Axis.{Axis}
-use Rattle.cells.specs.declared.Test.{Test}
+use Rattle.codes.specs.declared.Function.{Function}
+use Rattle.codes.specs.declared.Axis.{Axis}
+use Rattle.codes.specs.declared.Test.{Test}
 use Rattle.meaning.specs.Query.{fragmentOf}
-use Rattle.cells.specs.Codes.{functionOf, axisOf, testOf}
-use Rattle.cells.specs.Limits.{mostOperators}
+use Rattle.codes.specs.Codes.{functionOf, axisOf, testOf}
+use Rattle.codes.specs.Limits.{mostOperators}
 
 pub data Op : Type 0 where
   RT : Op  -- one row, one cell, 1

@@ -22,13 +22,13 @@ use mathlib.Core.Bool.{Bool, true, false, not, cond, _&&_, _||_}
 use lib.Dec.{ltb, leb, eqb}
 use lib.IntN.{ℤ, pos}
 use lib.ListN.{length}
-use Rattle.cells.specs.declared.Function.{Function}
-use Rattle.cells.specs.declared.Axis.{Axis}
-use Rattle.cells.specs.declared.Test.{Test}
+use Rattle.codes.specs.declared.Function.{Function}
+use Rattle.codes.specs.declared.Axis.{Axis}
+use Rattle.codes.specs.declared.Test.{Test}
 use Rattle.cells.specs.Bytes.{byteAt, word, int4, fits}
 use Rattle.cells.specs.Cell.{falseCell, trueCell}
-use Rattle.cells.specs.Codes.{functionOf, axisOf, testOf}
-use Rattle.cells.specs.Limits.{mostRecords, mostLevels}
+use Rattle.codes.specs.Codes.{functionOf, axisOf, testOf}
+use Rattle.codes.specs.Limits.{mostRecords, mostLevels}
 use Rattle.laws.specs.Lists.{any}
 use Rattle.laws.specs.Attempt.{Attempt, fails, gives, attempt, provided, Reading, refuses, reads, reading, refusing}
 use Rattle.laws.specs.Attempt.{unless}

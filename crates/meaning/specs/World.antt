@@ -33,13 +33,13 @@ use Rattle.cells.specs.declared.Item.{Item}
 use Rattle.cells.specs.declared.Item.the-variants.{Integer, Truth, Node}
 use Rattle.cells.specs.declared.Held.{Held}
 use Rattle.cells.specs.declared.Held.the-variants as Held
-use Rattle.cells.specs.declared.Function.{Function}
-use Rattle.cells.specs.declared.Function.the-variants.{Add, Subtract, Multiply, Divide, Equal, Less}
-use Rattle.cells.specs.declared.Axis.{Axis}
-use Rattle.cells.specs.declared.Axis.the-variants.{Child, Descendant, DescendantOrSelf, Itself, Parent, Ancestor}
-use Rattle.cells.specs.declared.Axis.the-variants.{Following, Preceding}
-use Rattle.cells.specs.declared.Test.{Test}
-use Rattle.cells.specs.declared.Test.the-variants.{AnyNode, Element, Text, Named}
+use Rattle.codes.specs.declared.Function.{Function}
+use Rattle.codes.specs.declared.Function.the-variants.{Add, Subtract, Multiply, Divide, Equal, Less}
+use Rattle.codes.specs.declared.Axis.{Axis}
+use Rattle.codes.specs.declared.Axis.the-variants.{Child, Descendant, DescendantOrSelf, Itself, Parent, Ancestor}
+use Rattle.codes.specs.declared.Axis.the-variants.{Following, Preceding}
+use Rattle.codes.specs.declared.Test.{Test}
+use Rattle.codes.specs.declared.Test.the-variants.{AnyNode, Element, Text, Named}
 use Rattle.cells.specs.Cell.{held, inRange, same, truthCell, nodeCell}
 use Rattle.laws.specs.Lists.{filter, any, below}
 use Rattle.laws.specs.Attempt.{Attempt, fails, gives, attempt, provided}

@@ -6,7 +6,7 @@ use mathlib.Core.List.{List, [], _∷_, _++_}
 use lib.IntN.{ℤ}
 use lib.ListN.{length}
 use Rattle.cells.specs.Bytes.{bytesOf, bits8}
-use Rattle.cells.specs.Codes.{functionNumber, axisNumber, testNumber, testName}
+use Rattle.codes.specs.Codes.{functionNumber, axisNumber, testNumber, testName}
 use Rattle.laws.specs.Lists.{gather}
 use Rattle.meaning.specs.Plan.{Op, RT, RA, RP, RU, RD, RS, RJ, RN, RF, RV, RC, RE, RK, RX, RO, markRT, markRA}
 use Rattle.meaning.specs.Plan.{markRP, markRU, markRD, markRS, markRJ, markRN, markRF, markRC, markRE, markRK}

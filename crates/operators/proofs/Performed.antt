@@ -4,9 +4,9 @@ use Prim.Native.Nat.{ℕ, _+_, _<_}
 use mathlib.Core.Path.{_≡_, refl, sym, ap, ap₂, subst}
 use mathlib.Core.List.{List, [], _∷_, _++_}
 use lib.IntN.{ℤ, pos}
-use Rattle.cells.specs.declared.Axis.{Axis}
-use Rattle.cells.specs.declared.Function.{Function}
-use Rattle.cells.specs.declared.Test.{Test}
+use Rattle.codes.specs.declared.Axis.{Axis}
+use Rattle.codes.specs.declared.Function.{Function}
+use Rattle.codes.specs.declared.Test.{Test}
 use Rattle.laws.specs.Attempt.{Attempt, gives, provided, each}
 use Rattle.meaning.specs.Catalogue.{Catalogue}
 use Rattle.meaning.specs.Operators as Operators

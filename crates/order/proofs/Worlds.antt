@@ -7,8 +7,8 @@ use mathlib.Core.List.{List, [], _∷_, _++_, map}
 use mathlib.Core.Bool.{Bool, _&&_}
 use lib.IntN.{ℤ}
 use Rattle.cells.specs.Cell.{nodeCell}
-use Rattle.cells.specs.declared.Axis.{Axis}
-use Rattle.cells.specs.declared.Test.{Test}
+use Rattle.codes.specs.declared.Axis.{Axis}
+use Rattle.codes.specs.declared.Test.{Test}
 use Rattle.laws.specs.Lists.{below}
 use Rattle.laws.specs.Attempt.{Attempt, fails, gives, attempt, each}
 use Rattle.laws.proofs.Lists.{all-any}

@@ -12,8 +12,8 @@ use Prim.Native.Nat.{ℕ}
 use mathlib.Core.Path.{_≡_}
 use mathlib.Core.List.{List, [], _∷_, map, List·Permᴰ}
 use lib.IntN.{ℤ}
-use Rattle.cells.specs.declared.Axis.{Axis}
-use Rattle.cells.specs.declared.Test.{Test}
+use Rattle.codes.specs.declared.Axis.{Axis}
+use Rattle.codes.specs.declared.Test.{Test}
 use Rattle.laws.specs.Attempt.{Work, full, failed, done}
 use Rattle.meaning.specs.World.{World}
 use Rattle.meaning.specs.Plan.{Placed}

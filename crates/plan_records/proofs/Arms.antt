@@ -15,12 +15,12 @@ use lib.IntN.{ℤ}
 use lib.ListN.{length}
 use Rattle.cells.specs.Bytes.{word, int8, fits}
 use Rattle.cells.specs.Cell.{held}
-use Rattle.cells.specs.declared.Axis.{Axis}
-use Rattle.cells.specs.declared.Test.{Test}
-use Rattle.cells.specs.declared.Function.{Function}
+use Rattle.codes.specs.declared.Axis.{Axis}
+use Rattle.codes.specs.declared.Test.{Test}
+use Rattle.codes.specs.declared.Function.{Function}
 use Rattle.laws.specs.Attempt.{Attempt, fails, attempt, provided}
 use Rattle.meaning.specs.Query.{fragmentOf}
-use Rattle.cells.specs.Codes.{functionOf, axisOf, testOf, functionField, axisField, testField, NoneOf}
+use Rattle.codes.specs.Codes.{functionOf, axisOf, testOf, functionField, axisField, testField, NoneOf}
 use Rattle.meaning.specs.Plan as Plan
 use Rattle.meaning.specs.Plan.{Op, field, plainIn, attachAt, projectAt, numberAt, functionAt, stepAt}
 use Rattle.meaning.specs.Plan.{operatorAt, markRT, markRA, markRP, markRU, markRD, markRS, markRJ, markRN}
@@ -30,12 +30,12 @@ use Rattle.plan_records.specs.declared.Operator.{Operator}
 use Rattle.plan_records.specs.declared.Operator.the-variants as Operator
 use Rattle.plan_records.specs.declared.Reading.{Reading}
 use Rattle.plan_records.specs.declared.Reading.the-variants.{Sound, Unsound}
-use Rattle.cells.specs.declared.codes.FunctionField.{FunctionField}
-use Rattle.cells.specs.declared.codes.FunctionField.the-variants as FunctionField
-use Rattle.cells.specs.declared.codes.AxisField.{AxisField}
-use Rattle.cells.specs.declared.codes.AxisField.the-variants as AxisField
-use Rattle.cells.specs.declared.codes.TestField.{TestField}
-use Rattle.cells.specs.declared.codes.TestField.the-variants as TestField
+use Rattle.codes.specs.declared.FunctionField.{FunctionField}
+use Rattle.codes.specs.declared.FunctionField.the-variants as FunctionField
+use Rattle.codes.specs.declared.AxisField.{AxisField}
+use Rattle.codes.specs.declared.AxisField.the-variants as AxisField
+use Rattle.codes.specs.declared.TestField.{TestField}
+use Rattle.codes.specs.declared.TestField.the-variants as TestField
 use Rattle.plan_records.specs.Arms as Arms
 use Rattle.plan_records.specs.Decoded.{operatorOf, Stands, Means}
 use Rattle.plan_records.proofs.Sized.{shorter, there, none-reads, bad-reads, cut-reads, cut-before, sound-reads}

@@ -12,7 +12,7 @@ use lib.IntN.{ℤ}
 use Rattle.cells.specs.Bytes.{word, int8, fits, Bytes}
 use Rattle.laws.specs.Attempt.{Attempt, gives, attempt, Given}
 use Rattle.meaning.specs.Query.{fragmentOf}
-use Rattle.cells.specs.Codes.{functionOf}
+use Rattle.codes.specs.Codes.{functionOf}
 use Rattle.meaning.specs.Plan.{Op, sized, field, attachAt, projectAt, numberAt, functionAt, stepAt}
 use Rattle.meaning.specs.Plan.{operatorOf, operatorAt}
 use Rattle.meaning.specs.Plan.{markRT, markRA, markRP, markRU, markRD, markRS, markRJ, markRN, markRF, markRC, markRE}
@@ -20,7 +20,7 @@ use Rattle.meaning.specs.Plan.{markRK, markRX, markRO}
 use Rattle.theorems.specs.PlanFields.{Own}
 use Rattle.laws.proofs.Booleans.{both-true}
 use Rattle.cells.proofs.Bytes.{word-bound}
-use Rattle.cells.proofs.Numbers.{name-fits}
+use Rattle.codes.proofs.Numbers.{name-fits}
 use Rattle.laws.proofs.Outcomes.{given-fails, given-gives, given-cond, given-provided, given-attempt, given-any}
 use Rattle.plan_records.specs.Fields.{Ends}
 use Rattle.plan_records.proofs.Columns.{columns-length}

@@ -7,7 +7,7 @@ use mathlib.Core.List.{List}
 use Rattle.cells.specs.Bytes.{int8}
 use Rattle.laws.specs.Attempt.{Attempt, gives, attempt}
 use Rattle.meaning.specs.Query.{fragmentOf}
-use Rattle.cells.specs.Codes.{functionOf}
+use Rattle.codes.specs.Codes.{functionOf}
 use Rattle.meaning.specs.Plan.{Op, RT, RU, RD, RS, RJ, RF, RV, RC, RE, RK, RO, sized, field, table, attachAt, projectAt}
 use Rattle.meaning.specs.Plan.{numberAt, functionAt, stepAt}
 

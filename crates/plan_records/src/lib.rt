@@ -1,12 +1,12 @@
 // Plan records: one operator, and its reader.
 mod records;
 
-use cells::Axis;
-use cells::Function;
-use cells::Test;
 use cells::fits;
-use cells::marks;
 use cells::word2;
+use codes::Axis;
+use codes::Function;
+use codes::Test;
+use codes::marks;
 ghost use Rattle.meaning.specs.Plan;
 ghost use Rattle.plan_records.specs.Decoded.{Means};
 

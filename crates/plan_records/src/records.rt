@@ -10,16 +10,16 @@ use crate::Reading;
 use cells::Held;
 use cells::Item;
 use cells::byte;
-use cells::codes::AxisField;
-use cells::codes::FunctionField;
-use cells::codes::TestField;
-use cells::codes::axis_of;
-use cells::codes::function_of;
-use cells::codes::test_of;
 use cells::fits;
 use cells::int8;
 use cells::item_of;
 use cells::word2;
+use codes::AxisField;
+use codes::FunctionField;
+use codes::TestField;
+use codes::axis_of;
+use codes::function_of;
+use codes::test_of;
 
 // An operator that was read, and the offset after its record.
 fn sound(operator: Operator, next: usize) -> Reading

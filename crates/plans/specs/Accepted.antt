@@ -12,7 +12,7 @@ use lib.Dec.{eqb, ltb}
 use lib.ListN.{length, getD}
 use Rattle.cells.specs.Cell.{held}
 use Rattle.laws.specs.Attempt.{gives, reads}
-use Rattle.cells.specs.Codes.{testName}
+use Rattle.codes.specs.Codes.{testName}
 use Rattle.meaning.specs.Plan.{Placed, plainIn, columnsAt, columns, widthOf, planRead}
 use Rattle.theorems.specs.PlanFields.{Own, Width}
 use Rattle.plan_records.specs.declared.Operator.{Operator}

@@ -3,7 +3,7 @@ pub mod widths;
 
 use crate::widths::Width;
 use crate::widths::width_of;
-use cells::limits::OPERATORS;
+use codes::limits::OPERATORS;
 use plan_records::Reading;
 use plan_records::read;
 ghost use mathlib.Core.Path.{_≡_};

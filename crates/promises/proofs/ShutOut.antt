@@ -13,7 +13,7 @@ use lib.Dec.{ltb}
 use native.Mathlib.Omega.{arith}
 use lib.IntN.{ℤ, pos}
 use lib.ListN.{length, take, replicate}
-use Rattle.cells.specs.Codes as Codes
+use Rattle.codes.specs.Codes as Codes
 use Rattle.laws.specs.Lists as Lists
 use Rattle.laws.proofs.Booleans.{both-true}
 use Rattle.laws.specs.Rows as Rows

@@ -1,6 +1,6 @@
 // The query check: the records of a query from left to right, their number, their depth and their variables.
-use cells::limits::LEVELS;
-use cells::limits::RECORDS;
+use codes::limits::LEVELS;
+use codes::limits::RECORDS;
 use query_records::Operands;
 use query_records::Reading;
 use query_records::flags::flag;

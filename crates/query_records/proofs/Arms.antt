@@ -17,10 +17,10 @@ use mir.Syntax.{w8}
 use mir.Val.{Fits}
 use lib.ListN.{length}
 use Rattle.cells.specs.Bytes.{byteAt, word, fits}
-use Rattle.cells.specs.Codes.{functionOf, axisOf, testOf, functionField, axisField, testField, NoneOf}
-use Rattle.cells.specs.declared.Function.{Function}
-use Rattle.cells.specs.declared.Axis.{Axis}
-use Rattle.cells.specs.declared.Test.{Test}
+use Rattle.codes.specs.Codes.{functionOf, axisOf, testOf, functionField, axisField, testField, NoneOf}
+use Rattle.codes.specs.declared.Function.{Function}
+use Rattle.codes.specs.declared.Axis.{Axis}
+use Rattle.codes.specs.declared.Test.{Test}
 use Rattle.laws.specs.Attempt.{Attempt, fails, gives, attempt, provided}
 use Rattle.meaning.specs.Query as Query
 use Rattle.meaning.specs.Query.{markQL, markQB, markQE, markQR, markQV, markQS, markQT, markQF, markQI, markQO, markQC}
@@ -29,12 +29,12 @@ use Rattle.query_records.specs.declared.Record.{Record}
 use Rattle.query_records.specs.declared.Record.the-variants as Record
 use Rattle.query_records.specs.declared.Reading.{Reading}
 use Rattle.query_records.specs.declared.Reading.the-variants.{Sound, Unsound}
-use Rattle.cells.specs.declared.codes.FunctionField.{FunctionField}
-use Rattle.cells.specs.declared.codes.FunctionField.the-variants as FunctionField
-use Rattle.cells.specs.declared.codes.AxisField.{AxisField}
-use Rattle.cells.specs.declared.codes.AxisField.the-variants as AxisField
-use Rattle.cells.specs.declared.codes.TestField.{TestField}
-use Rattle.cells.specs.declared.codes.TestField.the-variants as TestField
+use Rattle.codes.specs.declared.FunctionField.{FunctionField}
+use Rattle.codes.specs.declared.FunctionField.the-variants as FunctionField
+use Rattle.codes.specs.declared.AxisField.{AxisField}
+use Rattle.codes.specs.declared.AxisField.the-variants as AxisField
+use Rattle.codes.specs.declared.TestField.{TestField}
+use Rattle.codes.specs.declared.TestField.the-variants as TestField
 use Rattle.query_records.specs.declared.Field.{Field}
 use Rattle.query_records.specs.declared.Field.the-variants as Field
 use Rattle.query_records.specs.Decoded.{recordOf, readingOf, SmallLiteral, Means, numberField}

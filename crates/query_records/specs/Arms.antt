@@ -7,7 +7,7 @@ use mathlib.Core.List.{List}
 use Rattle.cells.specs.Bytes.{byteAt, word, int4, fits}
 use Rattle.laws.specs.Attempt.{Attempt, gives, attempt, provided}
 use Rattle.meaning.specs.Query.{Record, literal, root, function, step, variableOf}
-use Rattle.cells.specs.Codes.{functionOf, axisOf, testOf}
+use Rattle.codes.specs.Codes.{functionOf, axisOf, testOf}
 use Rattle.meaning.specs.Query.{fragmentOf, booleanOf, sized}
 
 unfoldable pub variableAt : List ℕ → ℕ → Attempt ℕ

@@ -1,20 +1,20 @@
 // Query records: reading one, and what follows it.
 pub mod flags;
 
-use cells::Axis;
-use cells::Function;
 use cells::Item;
-use cells::Test;
-use cells::codes::AxisField;
-use cells::codes::FunctionField;
-use cells::codes::TestField;
-use cells::codes::axis_of;
-use cells::codes::function_of;
-use cells::codes::test_of;
 use cells::fits;
 use cells::int4;
-use cells::marks;
 use cells::word2;
+use codes::Axis;
+use codes::AxisField;
+use codes::Function;
+use codes::FunctionField;
+use codes::Test;
+use codes::TestField;
+use codes::axis_of;
+use codes::function_of;
+use codes::marks;
+use codes::test_of;
 ghost use mathlib.Core.Path.{_≡_};
 ghost use Rattle.cells.specs.Bytes.{word};
 ghost use Rattle.meaning.specs.Query;

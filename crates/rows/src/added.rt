@@ -9,7 +9,7 @@ ghost use Rattle.meaning.specs.Operators.{cell};
 ghost use Rattle.meaning.specs.World;
 ghost use Rattle.tables.specs.Layout.{Owes};
 use crate::attach;
-use cells::Function;
+use codes::Function;
 use items::Tried;
 use tables::Laid;
 

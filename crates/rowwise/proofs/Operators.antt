@@ -7,7 +7,7 @@ use mathlib.Core.List.{List, [], _∷_, _++_, map}
 use mathlib.Core.Bool.{Bool, true, false, not, cond}
 use lib.IntN.{ℤ}
 use Rattle.cells.specs.Cell.{same, trueCell}
-use Rattle.cells.specs.declared.Function.{Function}
+use Rattle.codes.specs.declared.Function.{Function}
 use Rattle.laws.specs.Lists.{any}
 use Rattle.laws.specs.Attempt.{Attempt, gives, each}
 use Rattle.laws.proofs.Filters.{each-map, each-filter}

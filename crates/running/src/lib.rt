@@ -1,5 +1,5 @@
 // The work of the runner: the tables of a sound plan, laid end to end in the lent cells.
-use cells::limits::ROWS;
+use codes::limits::ROWS;
 ghost use mathlib.Core.Path.{_≡_};
 ghost use Prim.Native.Nat.{_≤_, _<_};
 ghost use lib.ListN.{length};

@@ -1,6 +1,6 @@
 // A row of a catalogue, checked by itself.
 use cells::Rank;
-use cells::limits::DEEPEST;
+use codes::limits::DEEPEST;
 ghost use mathlib.Core.Path.{_≡_};
 ghost use Prim.Native.Nat.{_+_, _*_, _≤_};
 ghost use lib.ListN.{length};

@@ -10,7 +10,7 @@ use lib.IntN.{ℤ, pos}
 use lib.ListN.{length, getD}
 use Rattle.laws.specs.Rows.{row, laid}
 use Rattle.laws.proofs.Rows.{length-row, getD-row, laid-nothing}
-use Rattle.cells.specs.declared.Function.{Function}
+use Rattle.codes.specs.declared.Function.{Function}
 use Rattle.laws.specs.Attempt.{Attempt, fails, gives, attempt, work}
 use Rattle.meaning.specs.World.{World}
 use Rattle.meaning.specs.Meaning.{apply}

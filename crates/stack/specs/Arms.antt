@@ -21,9 +21,9 @@ use lib.IntN.{ℤ, pos}
 use lib.ListN.{length, take}
 use Rattle.laws.specs.Rows.{row, laid}
 use Rattle.cells.specs.Cell.{nodeCell}
-use Rattle.cells.specs.declared.Axis.{Axis}
-use Rattle.cells.specs.declared.Function.{Function}
-use Rattle.cells.specs.declared.Test.{Test}
+use Rattle.codes.specs.declared.Axis.{Axis}
+use Rattle.codes.specs.declared.Function.{Function}
+use Rattle.codes.specs.declared.Test.{Test}
 use Rattle.laws.specs.Attempt.{fails, gives, Work, done, work, trying}
 use Rattle.meaning.specs.Catalogue.{catalogueOf}
 use Rattle.meaning.specs.World.{World, step}

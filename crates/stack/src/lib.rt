@@ -1,7 +1,7 @@
 // Items on one stack of lent cells: what each record of a query does with what its operands left there.
-use cells::Axis;
-use cells::Function;
-use cells::Test;
+use codes::Axis;
+use codes::Function;
+use codes::Test;
 use items::Tried;
 use nodesets::Marked;
 ghost use mathlib.Core.Path.{_≡_};

@@ -14,8 +14,8 @@ use lib.IntN.{ℤ, pos}
 use lib.ListN.{length, getD, drop, drop-of-length-le, length-map}
 use lib.Seq.{drop-cons}
 use Rattle.cells.specs.Cell.{same, nodeCell}
-use Rattle.cells.specs.declared.Axis.{Axis}
-use Rattle.cells.specs.declared.Test.{Test}
+use Rattle.codes.specs.declared.Axis.{Axis}
+use Rattle.codes.specs.declared.Test.{Test}
 use Rattle.laws.specs.Lists.{all}
 use Rattle.laws.specs.Rows.{laid}
 use Rattle.laws.proofs.Booleans.{by-cases}

@@ -19,7 +19,7 @@ use lib.Dec.{leb, ltb}
 use lib.IntN.{ℤ, pos}
 use lib.ListN.{length, length-append}
 use Rattle.laws.specs.Attempt.{Attempt, fails, gives, each, Work, full, failed, done, work, trying, within}
-use Rattle.cells.specs.declared.Function.{Function}
+use Rattle.codes.specs.declared.Function.{Function}
 use Rattle.meaning.specs.World.{World}
 use Rattle.meaning.specs.Query.{Query, QL, QE, QR, QV, QS, QT, QF, QI, QO, QC, QD, QX}
 use Rattle.meaning.specs.Meaning.{Env, bind, apply, values}

@@ -10,8 +10,8 @@ use mathlib.Core.Bool.{false, false≢true}
 use native.Mathlib.Omega.{arith}
 use borrow.Author.Tests.{ltb-true, eqb-true, lt-ltb, le-ltb}
 use lib.IntN.{ℤ, pos, negsuc}
-use Rattle.cells.specs.declared.Axis.{Axis}
-use Rattle.cells.specs.declared.Test.{Test}
+use Rattle.codes.specs.declared.Axis.{Axis}
+use Rattle.codes.specs.declared.Test.{Test}
 use Rattle.cells.specs.Cell.{nodeCell, before}
 use Rattle.laws.specs.Lists.{any, below, All, Rising}
 use Rattle.laws.proofs.Lists.{all-any, all-both, all-map, rising-map, filter-none, all-kept, all-passed}

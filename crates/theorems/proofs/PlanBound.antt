@@ -14,9 +14,9 @@ use lib.Dec.{eqb, lit≤}
 use lib.IntN.{ℤ}
 use lib.ListN.{length, length-append}
 use Rattle.laws.specs.Lists.{filter, below}
-use Rattle.cells.specs.declared.Function.{Function}
-use Rattle.cells.specs.declared.Axis.{Axis}
-use Rattle.cells.specs.declared.Test.{Test}
+use Rattle.codes.specs.declared.Function.{Function}
+use Rattle.codes.specs.declared.Axis.{Axis}
+use Rattle.codes.specs.declared.Test.{Test}
 use Rattle.meaning.specs.Query.{Query, QL, QE, QR, QV, QS, QT, QF, QI, QO, QC, QD, QX, free}
 use Rattle.meaning.specs.Plan.{Op}
 use Rattle.theorems.specs.Closed.{records}

@@ -21,16 +21,16 @@ use borrow.Author.Tests.{ltb-true, leb-true, leb-false, ne-eqb, le-ltb, le-leb}
 use Rattle.cells.specs.Bytes.{byteAt, word, signed, int8, fits, bytesOf, bits8}
 use Rattle.cells.specs.Cell.{held}
 use Rattle.cells.proofs.Bytes.{word-after, word-written, bits8-room, signed-bits8}
-use Rattle.cells.specs.declared.Function.{Function}
-use Rattle.cells.specs.declared.Function.the-variants.{Add, Subtract, Multiply, Divide, Equal, Less}
-use Rattle.cells.specs.declared.Axis.{Axis}
-use Rattle.cells.specs.declared.Axis.the-variants.{Child, Descendant, DescendantOrSelf, Itself, Parent, Ancestor}
-use Rattle.cells.specs.declared.Axis.the-variants.{Following, Preceding}
-use Rattle.cells.specs.declared.Test.{Test}
-use Rattle.cells.specs.declared.Test.the-variants.{AnyNode, Element, Text, Named}
+use Rattle.codes.specs.declared.Function.{Function}
+use Rattle.codes.specs.declared.Function.the-variants.{Add, Subtract, Multiply, Divide, Equal, Less}
+use Rattle.codes.specs.declared.Axis.{Axis}
+use Rattle.codes.specs.declared.Axis.the-variants.{Child, Descendant, DescendantOrSelf, Itself, Parent, Ancestor}
+use Rattle.codes.specs.declared.Axis.the-variants.{Following, Preceding}
+use Rattle.codes.specs.declared.Test.{Test}
+use Rattle.codes.specs.declared.Test.the-variants.{AnyNode, Element, Text, Named}
 use Rattle.laws.specs.Attempt.{Attempt, gives, attempt, provided}
 use Rattle.meaning.specs.Query.{fragmentOf}
-use Rattle.cells.specs.Codes.{functionOf, axisOf, testOf, functionNumber, axisNumber, testNumber, testName}
+use Rattle.codes.specs.Codes.{functionOf, axisOf, testOf, functionNumber, axisNumber, testNumber, testName}
 use Rattle.meaning.specs.Plan.{Op, RT, RA, RP, RU, RD, RS, RJ, RN, RF, RV, RC, RE, RK, RX, RO, markRT, markRA, markRP}
 use Rattle.meaning.specs.Plan.{markRU, markRD, markRS, markRJ, markRN, markRF, markRC, markRE, markRK, markRX, markRO}
 use Rattle.meaning.specs.Plan.{plainIn, columnsAt, sized, attachAt, projectAt, numberAt, functionAt, stepAt, operatorOf}

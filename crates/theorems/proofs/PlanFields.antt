@@ -11,16 +11,16 @@ use lib.ListN.{length, getD, length-append}
 use borrow.Author.Tests.{ltb-true, leb-true, eqb-true}
 use Rattle.laws.specs.Lists.{all}
 use Rattle.cells.specs.Cell.{held}
-use Rattle.cells.specs.declared.Function.{Function}
-use Rattle.cells.specs.declared.Axis.{Axis}
-use Rattle.cells.specs.declared.Test.{Test}
+use Rattle.codes.specs.declared.Function.{Function}
+use Rattle.codes.specs.declared.Axis.{Axis}
+use Rattle.codes.specs.declared.Test.{Test}
 use Rattle.laws.specs.Attempt.{Attempt, gives, attempt, provided}
 use Rattle.meaning.specs.Query.{Query, QL, QE, QR, QV, QS, QT, QF, QI, QO, QC, QD, QX}
 use Rattle.meaning.specs.Plan.{Op, RT, RA, RP, RU, RD, RS, RJ, RN, RF, RV, RC, RE, RK, RX, RO, plainIn, tableWidth}
 use Rattle.meaning.specs.Plan.{upTo6, columns, widthOf}
 use Rattle.meaning.specs.Translation.{Made, Tables, next, freeIn, othersIn, lifts, ruleL, ruleR, ruleE, tailS, headF}
 use Rattle.meaning.specs.Translation.{tailF, headI, tailO, tailC, tailD, tailX, then, tr, tailLast, plan}
-use Rattle.cells.specs.Codes.{testName}
+use Rattle.codes.specs.Codes.{testName}
 use Rattle.theorems.specs.Closed.{Closed}
 use Rattle.theorems.proofs.PlanWidths.{every-getD, every-append, or-true, attempt-gives, provided-gives}
 use Rattle.theorems.proofs.PlanWidths.{plan-widths}

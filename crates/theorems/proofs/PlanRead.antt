@@ -19,15 +19,15 @@ use lib.Seq.{take-at}
 use borrow.Author.Tests.{ltb-true, ltb-false, leb-true, lt-ltb, le-leb, lt-leb, eq-eqb}
 use Rattle.cells.specs.Bytes.{byteAt, word, signed, int4, fits}
 use Rattle.cells.specs.Cell.{held, falseCell, trueCell}
-use Rattle.cells.specs.declared.Axis.{Axis}
-use Rattle.cells.specs.declared.Test.the-variants.{AnyNode, Element, Text, Named}
+use Rattle.codes.specs.declared.Axis.{Axis}
+use Rattle.codes.specs.declared.Test.the-variants.{AnyNode, Element, Text, Named}
 use Rattle.laws.specs.Attempt.{Attempt, fails, gives, attempt, provided, Reading, refuses, reads, reading, refusing}
 use Rattle.laws.specs.Attempt.{unless}
 use Rattle.meaning.specs.Query.{Query, QL, QE, QR, QV, QS, QT, QF, QI, QO, QC, QD, QX, Record, literal, empty, root}
 use Rattle.meaning.specs.Query.{variable, sequence, letting, for, choice, function, counting, values, step, markQL}
 use Rattle.meaning.specs.Query.{markQB, markQE, markQR, markQV, markQS, markQT, markQF, markQI, markQO, markQC, markQD}
 use Rattle.meaning.specs.Query.{markQX, variableOf, fragmentOf, booleanOf, sized, recordOf}
-use Rattle.cells.specs.Codes.{functionOf, axisOf, testOf, testName}
+use Rattle.codes.specs.Codes.{functionOf, axisOf, testOf, testName}
 use Rattle.meaning.specs.Query.{recordAt, Read, Operand, bound, leaf, one, two, three, operands, read, queryRead}
 use Rattle.meaning.specs.Plan.{plainIn, Op, RT, RA, RP, RU, RD, RS, RJ, RN, RF, RV, RC, RE, RK, RX, RO, operatorAt}
 use Rattle.meaning.specs.Plan.{widthOf, Placed, placedAt, lastOf, ended, planFrom, planRead}
@@ -43,7 +43,7 @@ use Rattle.theorems.specs.PlanBytes.{Byte}
 use Rattle.theorems.proofs.PlanWidths.{every-append, attempt-gives, provided-gives, widths-count}
 use Rattle.theorems.specs.PlanWidths.{Every, widths}
 use Rattle.laws.proofs.Filters.{map-append}
-use Rattle.cells.proofs.Numbers.{name-fits}
+use Rattle.codes.proofs.Numbers.{name-fits}
 use Rattle.theorems.proofs.Ranges.{variable-below, fragment-within}
 use Rattle.theorems.proofs.PlanSteps.{from-end, from-on, placed-is}
 use Rattle.theorems.proofs.PlanFields.{plan-sound}

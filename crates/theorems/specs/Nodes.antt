@@ -9,8 +9,8 @@ use mathlib.Core.Path.{_≡_}
 use mathlib.Core.List.{List, [], map}
 use mathlib.Core.Bool.{true, false}
 use lib.IntN.{ℤ}
-use Rattle.cells.specs.declared.Axis.{Axis}
-use Rattle.cells.specs.declared.Test.{Test}
+use Rattle.codes.specs.declared.Axis.{Axis}
+use Rattle.codes.specs.declared.Test.{Test}
 use Rattle.cells.specs.Cell.{nodeCell, before}
 use Rattle.laws.specs.Lists.{All, Rising}
 use Rattle.laws.specs.Attempt.{gives}

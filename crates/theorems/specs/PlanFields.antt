@@ -13,7 +13,7 @@ use Rattle.cells.specs.Cell.{held}
 use Rattle.laws.specs.Attempt.{gives}
 use Rattle.meaning.specs.Query.{Query, QL, QE, QR, QV, QS, QT, QF, QI, QO, QC, QD, QX}
 use Rattle.meaning.specs.Plan.{Op, RT, RA, RP, RU, RD, RS, RJ, RN, RF, RV, RC, RE, RK, RX, RO, plainIn}
-use Rattle.cells.specs.Codes.{testName}
+use Rattle.codes.specs.Codes.{testName}
 use Rattle.theorems.specs.PlanWidths.{Every, widths}
 
 -- the fields that do not name tables and columns

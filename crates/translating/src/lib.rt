@@ -1,9 +1,9 @@
 // The work of the translator: the operators of a query's expressions, written over lent bytes.
 use adding::Output;
 use adding::Pen;
-use cells::Axis;
-use cells::Function;
-use cells::Test;
+use codes::Axis;
+use codes::Function;
+use codes::Test;
 use query_records::Reading;
 use query_records::Record;
 ghost use mathlib.Core.Path.{_≡_};

@@ -1,8 +1,8 @@
 // The translator: the query check, the plan that crates/translating writes over lent bytes, and the answer.
 use adding::Operator;
 use adding::Pen;
-use cells::limits::LEVELS;
-use cells::limits::OPERATORS;
+use codes::limits::LEVELS;
+use codes::limits::OPERATORS;
 use queries::Checked;
 ghost use mathlib.Core.Path.{_≡_};
 ghost use lib.ListN.{length};

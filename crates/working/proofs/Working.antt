@@ -18,9 +18,9 @@ use denote.Enum.Declared.{tagOf}
 use types.Run.{OneOf, miss}
 use lib.IntN.{ℤ}
 use lib.ListN.{length, take}
-use Rattle.cells.specs.declared.Axis.{Axis}
-use Rattle.cells.specs.declared.Function.{Function}
-use Rattle.cells.specs.declared.Test.{Test}
+use Rattle.codes.specs.declared.Axis.{Axis}
+use Rattle.codes.specs.declared.Function.{Function}
+use Rattle.codes.specs.declared.Test.{Test}
 use Rattle.laws.specs.Rows.{row}
 use Rattle.laws.specs.Attempt.{fails, gives, Work, full, failed, done, work}
 use Rattle.meaning.specs.World.{World}

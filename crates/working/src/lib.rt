@@ -1,7 +1,7 @@
 // The work of the evaluator: a query worked out record by record, its items on one stack of lent cells.
-use cells::Axis;
-use cells::Test;
-use cells::limits::ROWS;
+use codes::Axis;
+use codes::Test;
+use codes::limits::ROWS;
 use items::Judged;
 use query_records::Reading;
 use query_records::Record;

@@ -1,10 +1,9 @@
 // Writing the records of a plan over lent bytes. Each function takes the position to write at and gives the position
 // after. It runs on past the lent end, and what does not fit is not written. No function loops but `clear`.
-use cells::Axis;
-use cells::Function;
-use cells::Test;
-use cells::codes;
-use cells::marks;
+use codes::Axis;
+use codes::Function;
+use codes::Test;
+use codes::marks;
 ghost use mathlib.Core.Path.{_≡_};
 ghost use mathlib.Core.List.{[], _∷_, _++_};
 ghost use Prim.Native.Nat.{_+_, _^_, _<_};

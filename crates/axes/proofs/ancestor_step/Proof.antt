@@ -4,7 +4,7 @@ use Prim.Native.Nat.{_≤_, _<_, _+_, _-_}
 use mathlib.Core.Path.{_≡_, ap, _∙_}
 use lib.Dec.{leb}
 use native.Mathlib.Omega.{arith}
-use Rattle.cells.specs.declared.Axis.the-variants.{Ancestor}
+use Rattle.codes.specs.declared.Axis.the-variants.{Ancestor}
 use Rattle.meaning.specs.Catalogue.{catalogueOf}
 use Rattle.axes.specs.Steps.{Part}
 use Rattle.axes.proofs.Marking.{part-none, part-down}

@@ -3,7 +3,7 @@
 use Prim.Native.Nat.{_≤_, _-_, zero-le}
 use mathlib.Core.Path.{_≡_, sym}
 use native.Mathlib.Omega.{arith}
-use Rattle.cells.specs.declared.Axis.the-variants.{Following}
+use Rattle.codes.specs.declared.Axis.the-variants.{Following}
 use Rattle.meaning.specs.Catalogue.{catalogueOf}
 use Rattle.axes.specs.Steps.{Part}
 use Rattle.axes.proofs.Marking.{part-none, part-up}

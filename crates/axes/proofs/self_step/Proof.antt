@@ -2,7 +2,7 @@
 use Prim.Native.Nat.{_≤_, _-_, zero-le}
 use mathlib.Core.Path.{_≡_}
 use native.Mathlib.Omega.{arith}
-use Rattle.cells.specs.declared.Axis.the-variants.{Itself}
+use Rattle.codes.specs.declared.Axis.the-variants.{Itself}
 use Rattle.meaning.specs.Catalogue.{catalogueOf}
 use Rattle.axes.specs.Steps.{Part}
 use Rattle.axes.proofs.Marking.{part-none, part-up}

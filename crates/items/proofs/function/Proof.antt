@@ -5,7 +5,7 @@ use mir.Val.{ofZ, toZ}
 use mir.Facts.{toZ-ofZ}
 use Rattle.cells.proofs.Bits.{read-back}
 use Rattle.cells.specs.Cell.{truthCell}
-use Rattle.cells.specs.declared.Function.the-variants.{Add, Subtract, Multiply, Divide, Equal, Less}
+use Rattle.codes.specs.declared.Function.the-variants.{Add, Subtract, Multiply, Divide, Equal, Less}
 use Rattle.laws.specs.Attempt.{gives}
 use Rattle.meaning.specs.World as World
 use Rattle.items.specs.Answers.{number, tried}

@@ -1,4 +1,4 @@
--- The bounds that document 01 sets, each named once; crates/cells/src/limits.rt has the same for code.
+-- The bounds that document 01 sets, each named once; crates/codes/src/limits.rt has the same for code.
 --     mostRows         rows of a catalogue
 --     deepest          the deepest level of a row
 --     mostRecords      records of a query

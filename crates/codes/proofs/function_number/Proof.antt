@@ -1,9 +1,9 @@
 -- `function_number` meets its contract, case by case.
 use mathlib.Core.Path.{sym, ap}
-use Rattle.cells.specs.Codes.{functionNumber}
+use Rattle.codes.specs.Codes.{functionNumber}
 use borrow.Author.Needs.{needs}
-use Rattle.cells.proofs.codes.function_number.Statement.{statement}
-use Rattle.cells.proofs.codes.function_number.Tie as tie
+use Rattle.codes.proofs.function_number.Statement.{statement}
+use Rattle.codes.proofs.function_number.Tie as tie
 
 enum-told : tie.Need-enum-told
 enum-told c = search needs

@@ -10,8 +10,8 @@ use lib.Dec.{eqb}
 use native.Mathlib.Omega.{arith}
 use Rattle.laws.specs.Attempt.{fails, provided, Given}
 use Rattle.laws.proofs.Outcomes.{given-fails, given-gives, given-cond, given-provided}
-use Rattle.cells.specs.declared.Test.{Test}
-use Rattle.cells.specs.Codes.{functionOf, axisOf, testOf, testName, NoneOf}
+use Rattle.codes.specs.declared.Test.{Test}
+use Rattle.codes.specs.Codes.{functionOf, axisOf, testOf, testName, NoneOf}
 
 pub axis-none : (n : ℕ) → NoneOf n (0 ∷ 8 ∷ 7 ∷ 6 ∷ 5 ∷ 4 ∷ 3 ∷ 2 ∷ 1 ∷ []) → axisOf n ≡ fails
 unfolding axisOf

@@ -1,9 +1,9 @@
 -- `test_name` meets its contract, case by case.
 use mathlib.Core.Path.{sym, ap}
-use Rattle.cells.specs.Codes.{testName}
+use Rattle.codes.specs.Codes.{testName}
 use borrow.Author.Needs.{needs}
-use Rattle.cells.proofs.codes.test_name.Statement.{statement}
-use Rattle.cells.proofs.codes.test_name.Tie as tie
+use Rattle.codes.proofs.test_name.Statement.{statement}
+use Rattle.codes.proofs.test_name.Tie as tie
 
 enum-told : tie.Need-enum-told
 enum-told c = search needs

@@ -1,9 +1,9 @@
 -- `function_of` meets its contract: each number by the definition's own table, the refused range by `function-none`.
 use mathlib.Core.Path.{sym}
-use Rattle.cells.specs.Codes.{functionOf}
-use Rattle.cells.proofs.Numbers.{function-none}
-use Rattle.cells.proofs.codes.function_of.Statement.{statement}
-use Rattle.cells.proofs.codes.function_of.Tie as tie
+use Rattle.codes.specs.Codes.{functionOf}
+use Rattle.codes.proofs.Numbers.{function-none}
+use Rattle.codes.proofs.function_of.Statement.{statement}
+use Rattle.codes.proofs.function_of.Tie as tie
 
 returns : tie.Need-returns
 unfolding functionOf

@@ -1,9 +1,9 @@
 -- `test_number` meets its contract, case by case.
 use mathlib.Core.Path.{sym, ap}
-use Rattle.cells.specs.Codes.{testNumber}
+use Rattle.codes.specs.Codes.{testNumber}
 use borrow.Author.Needs.{needs}
-use Rattle.cells.proofs.codes.test_number.Statement.{statement}
-use Rattle.cells.proofs.codes.test_number.Tie as tie
+use Rattle.codes.proofs.test_number.Statement.{statement}
+use Rattle.codes.proofs.test_number.Tie as tie
 
 enum-told : tie.Need-enum-told
 enum-told c = search needs

@@ -1,8 +1,8 @@
 -- `nameless` meets its contract, by the test of the name.
 use borrow.Author.Tests.{ne-eqb}
 use Rattle.laws.specs.Attempt.{provided}
-use Rattle.cells.proofs.codes.nameless.Statement.{statement}
-use Rattle.cells.proofs.codes.nameless.Tie as tie
+use Rattle.codes.proofs.nameless.Statement.{statement}
+use Rattle.codes.proofs.nameless.Tie as tie
 
 returns : tie.Need-returns
 unfolding provided

@@ -1,10 +1,10 @@
 -- `test_of` meets its contract: each number by the definition's own table, the refused range by `test-none`.
 use mathlib.Core.Path.{sym}
 use borrow.Author.Needs.{needs}
-use Rattle.cells.specs.Codes.{testOf}
-use Rattle.cells.proofs.Numbers.{test-none}
-use Rattle.cells.proofs.codes.test_of.Statement.{statement}
-use Rattle.cells.proofs.codes.test_of.Tie as tie
+use Rattle.codes.specs.Codes.{testOf}
+use Rattle.codes.proofs.Numbers.{test-none}
+use Rattle.codes.proofs.test_of.Statement.{statement}
+use Rattle.codes.proofs.test_of.Tie as tie
 
 nameless-requires : tie.Need-nameless-requires
 nameless-requires c κs = search needs

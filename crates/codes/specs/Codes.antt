@@ -11,19 +11,19 @@ use mathlib.Core.Bool.{cond}
 use mathlib.Core.List.{List, [], _∷_}
 use lib.Dec.{eqb}
 use Rattle.laws.specs.Attempt.{Attempt, fails, gives, provided}
-use Rattle.cells.specs.declared.Function.{Function}
-use Rattle.cells.specs.declared.Function.the-variants.{Add, Subtract, Multiply, Divide, Equal, Less}
-use Rattle.cells.specs.declared.Axis.{Axis}
-use Rattle.cells.specs.declared.Axis.the-variants.{Child, Descendant, DescendantOrSelf, Itself}
-use Rattle.cells.specs.declared.Axis.the-variants.{Parent, Ancestor, Following, Preceding}
-use Rattle.cells.specs.declared.Test.{Test}
-use Rattle.cells.specs.declared.Test.the-variants.{AnyNode, Element, Text, Named}
-use Rattle.cells.specs.declared.codes.FunctionField.{FunctionField}
-use Rattle.cells.specs.declared.codes.FunctionField.the-variants as FunctionField
-use Rattle.cells.specs.declared.codes.AxisField.{AxisField}
-use Rattle.cells.specs.declared.codes.AxisField.the-variants as AxisField
-use Rattle.cells.specs.declared.codes.TestField.{TestField}
-use Rattle.cells.specs.declared.codes.TestField.the-variants as TestField
+use Rattle.codes.specs.declared.Function.{Function}
+use Rattle.codes.specs.declared.Function.the-variants.{Add, Subtract, Multiply, Divide, Equal, Less}
+use Rattle.codes.specs.declared.Axis.{Axis}
+use Rattle.codes.specs.declared.Axis.the-variants.{Child, Descendant, DescendantOrSelf, Itself}
+use Rattle.codes.specs.declared.Axis.the-variants.{Parent, Ancestor, Following, Preceding}
+use Rattle.codes.specs.declared.Test.{Test}
+use Rattle.codes.specs.declared.Test.the-variants.{AnyNode, Element, Text, Named}
+use Rattle.codes.specs.declared.FunctionField.{FunctionField}
+use Rattle.codes.specs.declared.FunctionField.the-variants as FunctionField
+use Rattle.codes.specs.declared.AxisField.{AxisField}
+use Rattle.codes.specs.declared.AxisField.the-variants as AxisField
+use Rattle.codes.specs.declared.TestField.{TestField}
+use Rattle.codes.specs.declared.TestField.the-variants as TestField
 
 -- 1 add, 2 subtract, 3 multiply, 4 idiv, 5 eq, 6 lt
 unfoldable pub functionOf : ℕ → Attempt Function

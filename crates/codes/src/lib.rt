@@ -1,12 +1,42 @@
-// The numbers of document 01 for function, axis and test: read and written here, and nowhere else.
-use crate::Axis;
-use crate::Function;
-use crate::Test;
+// The functions, axes and tests of document 01, and their numbers: read and written here, and nowhere else.
+pub mod limits;
+pub mod marks;
+
+// The functions of QO and RF.
+pub enum Function {
+    Add,
+    Subtract,
+    Multiply,
+    Divide,
+    Equal,
+    Less,
+}
+
+// The axes of a step.
+pub enum Axis {
+    Child,
+    Descendant,
+    DescendantOrSelf,
+    Itself,
+    Parent,
+    Ancestor,
+    Following,
+    Preceding,
+}
+
+// The tests of a step.
+pub enum Test {
+    AnyNode,
+    Element,
+    Text,
+    Named(usize),
+}
+
 ghost use mathlib.Core.Path.{_≡_};
 ghost use lib.Dec.{eqb};
 ghost use Rattle.laws.specs.Attempt.{gives, provided};
-ghost use Rattle.cells.specs.Codes.{functionOf, axisOf, testOf, functionField, axisField, testField};
-ghost use Rattle.cells.specs.Codes.{functionNumber, axisNumber, testNumber, testName};
+ghost use Rattle.codes.specs.Codes.{functionOf, axisOf, testOf, functionField, axisField, testField};
+ghost use Rattle.codes.specs.Codes.{functionNumber, axisNumber, testNumber, testName};
 
 // The function, the axis or the test that a field names, or that its number is out of range.
 pub enum FunctionField {

@@ -1,9 +1,9 @@
 -- `axis_number` meets its contract, case by case.
 use mathlib.Core.Path.{sym, ap}
-use Rattle.cells.specs.Codes.{axisNumber}
+use Rattle.codes.specs.Codes.{axisNumber}
 use borrow.Author.Needs.{needs}
-use Rattle.cells.proofs.codes.axis_number.Statement.{statement}
-use Rattle.cells.proofs.codes.axis_number.Tie as tie
+use Rattle.codes.proofs.axis_number.Statement.{statement}
+use Rattle.codes.proofs.axis_number.Tie as tie
 
 enum-told : tie.Need-enum-told
 enum-told c = search needs

@@ -1,9 +1,9 @@
 -- `axis_of` meets its contract: each number by the definition's own table, the refused range by `axis-none`.
 use mathlib.Core.Path.{sym}
-use Rattle.cells.specs.Codes.{axisOf}
-use Rattle.cells.proofs.Numbers.{axis-none}
-use Rattle.cells.proofs.codes.axis_of.Statement.{statement}
-use Rattle.cells.proofs.codes.axis_of.Tie as tie
+use Rattle.codes.specs.Codes.{axisOf}
+use Rattle.codes.proofs.Numbers.{axis-none}
+use Rattle.codes.proofs.axis_of.Statement.{statement}
+use Rattle.codes.proofs.axis_of.Tie as tie
 
 returns : tie.Need-returns
 unfolding axisOf
