@@ -27,7 +27,7 @@ class Group(NamedTuple):
 
 
 GROUPS = [
-    Group("laws and cells", "ground", "laws cells", "specs",
+    Group("laws, cells, codes", "ground", "laws cells codes", "specs",
           (("sort", "lists, sorting, joins, rows: nothing of queries"), ("held", "items and the cells that hold them"))),
     Group("the definitions: what a reader believes", "definitions", "meaning", "specs",
           (("queryRead catalogueRead planRead", "bytes to a query, a catalogue, a plan; the refusals"),
