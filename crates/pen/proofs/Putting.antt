@@ -6,7 +6,7 @@
 --     pens-cleared             what is written from 0 on, then zeros from its end on: padded with zeros
 --     bytesOf-join             a number of m + n bytes: what is past the last n bytes, then those
 --     word-more, word-whole    a word, byte by byte
-use Prim.Native.Nat.{ℕ, zero, suc, _+_, _-_, _/_, _%_, _^_, _≤_, _<_}
+use Prim.Native.Nat.{ℕ, zero, suc, _+_, _/_, _%_, _^_, _≤_, _<_}
 use mathlib.Core.Path.{_≡_, refl, sym, ap, ap₂, subst, _∙_}
 use mathlib.Core.List.{List, [], _∷_, _++_, append-assoc, append-nil}
 use native.Mathlib.Nat.{add-suc, add-zero, zero-add, add-assoc, pow-suc, div-one, div-div-eq-div-mul, mul-comm}

@@ -5,7 +5,6 @@ use cells::Function;
 use cells::Test;
 use cells::codes;
 use cells::marks;
-ghost use mathlib.Core.Path.{_≡_};
 ghost use mathlib.Core.List.{[], _∷_, _++_};
 ghost use Prim.Native.Nat.{_+_, _^_, _<_};
 ghost use lib.ListN.{length};

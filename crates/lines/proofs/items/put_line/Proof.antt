@@ -1,5 +1,5 @@
 -- `lines::items::put_line` meets its contract: the word, the number, the line's end.
-use mathlib.Core.Path.{refl, _∙_}
+use mathlib.Core.Path.{_∙_}
 use native.Mathlib.Omega.{arith}
 use Rattle.pen.proofs.Putting.{pens-more}
 use Rattle.pen.proofs.Digits.{decimal-end}
