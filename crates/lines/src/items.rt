@@ -66,7 +66,8 @@ fn put_item(text: &mut [u8], at: usize, cell: i64) -> usize
 // The lines of the first n items, one after another.
 pub fn put_items(text: &mut [u8], at: usize, cells: &[i64], n: usize) -> usize
     requires { ⌜ (at + 32 * n < 2 ^ 64) × (n ≤ length (now cells)) ⌝ }
-    ensures { λ r. ⌜ Pens at (gather Text.itemLine (take n (now (cells .entry)))) (now (text .entry)) (now (text .exit)) r
+    ensures { λ r. ⌜ Pens at (gather Text.itemLine (take n (now (cells .entry))))
+        (now (text .entry)) (now (text .exit)) r
         × (r ≤ at + 32 * n) ⌝ }
 {
     let mut end = at;

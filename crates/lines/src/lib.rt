@@ -40,7 +40,8 @@ pub fn keep(work: &[i64], start: usize, rows: usize, kept: &mut [i64])
 // `refused n at p`.
 fn put_refusal(text: &mut [u8], at: usize, number: usize, place: usize) -> usize
     requires { ⌜ at + 64 < 2 ^ 64 ⌝ }
-    ensures { λ r. ⌜ Pens at (Text.refusedLine number place) (now (text .entry)) (now (text .exit)) r × (r ≤ at + 64) ⌝ }
+    ensures { λ r. ⌜ Pens at (Text.refusedLine number place) (now (text .entry)) (now (text .exit)) r
+        × (r ≤ at + 64) ⌝ }
 {
     let a = pen::put_word(text, at, b"refused ");
     let b = pen::put_number(text, a, number);

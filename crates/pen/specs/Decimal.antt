@@ -1,4 +1,5 @@
--- Numbers in decimal, as bytes: each the ASCII number of a character (document 01, 'Program `chartask`').
+-- Numbers in decimal, a list of bytes, each the ASCII number of a character (document 01, 'Marked examples', from
+-- 'Program `chartask`' on).
 --     minus           the sign
 --     digits k n      n in decimal, k digits at most
 --     decimal n       n in decimal: twenty digits are enough for 64 bits

@@ -1,6 +1,6 @@
-// Writing over lent bytes: single bytes, numbers as bytes, words, numbers in decimal. Each function takes the position to
-// write at and gives the position after. It runs on past the lent end, and what does not fit is not written: only `put`
-// asks how many bytes there are.
+// Writing over lent bytes: single bytes, numbers as bytes, words, numbers in decimal. Each function but `clear` takes
+// the position to write at and gives the position after. It runs on past the lent end, and what does not fit is not
+// written: `put` alone asks how many bytes there are.
 ghost use mathlib.Core.Path.{_≡_};
 ghost use mathlib.Core.List.{[], _∷_};
 ghost use Prim.Native.Nat.{_+_, _^_, _<_};

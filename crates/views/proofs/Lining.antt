@@ -69,8 +69,8 @@ pub column-is : (xs ys : List ℕ) (k n : ℕ) (v z : ℤ) → n ≤ length xs �
     → atRight (take k ys) ≡ column z
 unfolding column
 column-is xs ys k n v z h p e f =
-    ap atRight
-    (ap (λ (j : ℕ). take j ys) f ∙ put-text xs ys (cellText v) n (put-penned xs 0 ys (cellText v) n h p) ∙ ap cellText e)
+    let put = put-penned xs 0 ys (cellText v) n h p in
+    ap atRight (ap (λ (j : ℕ). take j ys) f ∙ put-text xs ys (cellText v) n put ∙ ap cellText e)
 
 pub columns-more : (cells : List ℤ) (i : ℕ) (z : ℤ) → z ≡ getD cells i (pos 0) → i < length cells
     → gather column (take i cells) ++ column z ≡ gather column (take (i + 1) cells)

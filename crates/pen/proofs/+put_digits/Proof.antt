@@ -51,7 +51,8 @@ put-digits-returns-2 t c =
 put-digits-sub-put-digits : (t : ℕ) → put-digits-lts.Need-sub-put-digits (calls t) (put-digits-at t) put-digits.Post
 put-digits-sub-put-digits t c = search needs
 
-put-digits-put-digits-requires : (t : ℕ) → put-digits-lts.Need-put-digits-requires (calls t) (put-digits-at t) put-digits.Post
+put-digits-put-digits-requires : (t : ℕ)
+    → put-digits-lts.Need-put-digits-requires (calls t) (put-digits-at t) put-digits.Post
 put-digits-put-digits-requires t c κs = search needs
 
 put-digits-digit-requires-2 : (t : ℕ) → put-digits-lts.Need-digit-requires-2 (calls t) (put-digits-at t) put-digits.Post

@@ -11,7 +11,8 @@ use Rattle.pen.proofs.clear.Tie as tie
 
 abbrev Inv-loop : tie.InvT-loop
 Inv-loop bytes₀ from i₀ bytes i =
-    (length bytes ≡ length bytes₀) × (padded 0 (length bytes₀) (take i bytes) ≡ padded 0 (length bytes₀) (take from bytes₀))
+    (length bytes ≡ length bytes₀)
+    × (padded 0 (length bytes₀) (take i bytes) ≡ padded 0 (length bytes₀) (take from bytes₀))
 
 abbrev μ-loop : tie.MeasureT-loop
 μ-loop bytes₀ from i₀ bytes i = length bytes₀ - i
