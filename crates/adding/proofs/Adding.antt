@@ -24,13 +24,13 @@ use Rattle.laws.specs.Lists.{gather}
 use Rattle.meaning.specs.Plan.{Op, RA}
 use Rattle.meaning.specs.Translation.{Made, then}
 use Rattle.meaning.specs.Written.{written, operatorBytes}
-use Rattle.writing.specs.Penned.{penned, Pens}
+use Rattle.pen.specs.Penned.{penned, Pens}
 use Rattle.writing.specs.Listed.{columnsOf, keysOf}
 use Rattle.writing.specs.declared.Columns.{Columns}
 use Rattle.writing.specs.declared.Columns.the-variants as Columns
 use Rattle.writing.specs.declared.Keys.{Keys}
 use Rattle.writing.specs.declared.Keys.the-variants as Keys
-use Rattle.writing.proofs.Penned.{penned-length}
+use Rattle.pen.proofs.Penned.{penned-length}
 use Rattle.writing.proofs.Putting.{pens-operators}
 use Rattle.adding.specs.declared.Operator.{Operator}
 use Rattle.adding.specs.declared.Operator.the-variants.{First, Attach, Project, Union, Minus, Select, Join}

@@ -11,7 +11,7 @@ use lib.ListN.{length}
 use Rattle.meaning.specs.Plan.{Op, RT, RA, RP, RU, RD, RS, RJ, RN, RF, RV, RC, RE, RK, RX, RO}
 use Rattle.meaning.specs.Translation.{Made}
 use Rattle.meaning.specs.Written.{written}
-use Rattle.writing.specs.Penned.{Pens}
+use Rattle.pen.specs.Penned.{Pens}
 use Rattle.writing.specs.Listed.{columnsOf, keysOf}
 use Rattle.adding.specs.declared.Operator.{Operator}
 use Rattle.adding.specs.declared.Operator.the-variants.{First, Attach, Project, Union, Minus, Select, Join}

@@ -8,7 +8,7 @@ ghost use mathlib.Core.Path.{_≡_};
 ghost use mathlib.Core.List.{[], _∷_};
 ghost use Prim.Native.Nat.{_+_, _^_, _<_};
 ghost use Rattle.meaning.specs.Written.{operatorBytes};
-ghost use Rattle.writing.specs.Penned.{Pens};
+ghost use Rattle.pen.specs.Penned.{Pens};
 ghost use Rattle.adding.specs.Ruled.{operatorOf, Room, Wrote};
 
 // Where writing stands: the number of the next operator, and the position of its first byte.

@@ -26,6 +26,7 @@ use Rattle.meaning.specs.Translation as Translation
 use Rattle.meaning.specs.Written as Written
 use Rattle.meaning.specs.Calls as Calls
 use Rattle.lines.specs.declared.Told.the-variants.{Gave, Refused}
+use Rattle.pen.specs.Decimal as Decimal
 use Rattle.lines.specs.Text as Text
 use Rattle.lines.specs.Printed as Printed
 
@@ -52,7 +53,8 @@ marked :
     ∷ 105 ∷ 110 ∷ 116 ∷ 32 ∷ 49 ∷ 10
     ∷ 105 ∷ 110 ∷ 116 ∷ 32 ∷ 48 ∷ 10
     ∷ 115 ∷ 97 ∷ 109 ∷ 101 ∷ 32 ∷ 121 ∷ 101 ∷ 115 ∷ 10 ∷ []
-unfolding Text.digits Text.decimal Text.signed Text.integerLine Text.truthLine Text.nodeLine Text.heldLine Text.itemLine
+unfolding Decimal.digits Decimal.decimal Decimal.signed
+    Text.integerLine Text.truthLine Text.nodeLine Text.heldLine Text.itemLine
     Text.refusedLine Text.itemsLine Text.firstLines Text.refusedWith Text.agree Text.verdict Text.sameLine Text.text
     Printed.valueOf Printed.toldBy Printed.runItems Printed.printed Rows.row Rows.rowsAt Lists.filter Lists.any
     Lists.all Lists.count Lists.firsts Lists.gather Lists.below Lists.sum Sorting.insert Sorting.sort Cell.cellOf
@@ -93,7 +95,8 @@ each-kind :
     ∷ 98 ∷ 111 ∷ 111 ∷ 108 ∷ 32 ∷ 49 ∷ 10
     ∷ 110 ∷ 111 ∷ 100 ∷ 101 ∷ 32 ∷ 50 ∷ 48 ∷ 52 ∷ 55 ∷ 10
     ∷ 115 ∷ 97 ∷ 109 ∷ 101 ∷ 32 ∷ 121 ∷ 101 ∷ 115 ∷ 10 ∷ []
-unfolding Text.digits Text.decimal Text.signed Text.integerLine Text.truthLine Text.nodeLine Text.heldLine Text.itemLine
+unfolding Decimal.digits Decimal.decimal Decimal.signed
+    Text.integerLine Text.truthLine Text.nodeLine Text.heldLine Text.itemLine
     Text.refusedLine Text.itemsLine Text.firstLines Text.refusedWith Text.agree Text.verdict Text.sameLine Text.text
     Lists.gather Cell.held Cell.same Operators.sameRow
 each-kind = refl
@@ -102,7 +105,8 @@ each-kind = refl
 alone :
     Text.text (Refused 3 12) (Gave 0) [] (Gave 0) []
     ≡ 114 ∷ 101 ∷ 102 ∷ 117 ∷ 115 ∷ 101 ∷ 100 ∷ 32 ∷ 51 ∷ 32 ∷ 97 ∷ 116 ∷ 32 ∷ 49 ∷ 50 ∷ 10 ∷ []
-unfolding Text.digits Text.decimal Text.signed Text.integerLine Text.truthLine Text.nodeLine Text.heldLine Text.itemLine
+unfolding Decimal.digits Decimal.decimal Decimal.signed
+    Text.integerLine Text.truthLine Text.nodeLine Text.heldLine Text.itemLine
     Text.refusedLine Text.itemsLine Text.firstLines Text.refusedWith Text.agree Text.verdict Text.sameLine Text.text
 alone = refl
 
@@ -110,7 +114,8 @@ alike :
     Text.text (Gave 5) (Refused 7 30) [] (Refused 7 6) []
     ≡ 114 ∷ 101 ∷ 102 ∷ 117 ∷ 115 ∷ 101 ∷ 100 ∷ 32 ∷ 55 ∷ 32 ∷ 97 ∷ 116 ∷ 32 ∷ 51 ∷ 48 ∷ 10
     ∷ 115 ∷ 97 ∷ 109 ∷ 101 ∷ 32 ∷ 121 ∷ 101 ∷ 115 ∷ 10 ∷ []
-unfolding Text.digits Text.decimal Text.signed Text.integerLine Text.truthLine Text.nodeLine Text.heldLine Text.itemLine
+unfolding Decimal.digits Decimal.decimal Decimal.signed
+    Text.integerLine Text.truthLine Text.nodeLine Text.heldLine Text.itemLine
     Text.refusedLine Text.itemsLine Text.firstLines Text.refusedWith Text.agree Text.verdict Text.sameLine Text.text
 alike = refl
 
@@ -118,7 +123,8 @@ differs :
     Text.text (Gave 5) (Refused 7 30) [] (Gave 0) []
     ≡ 114 ∷ 101 ∷ 102 ∷ 117 ∷ 115 ∷ 101 ∷ 100 ∷ 32 ∷ 55 ∷ 32 ∷ 97 ∷ 116 ∷ 32 ∷ 51 ∷ 48 ∷ 10
     ∷ 115 ∷ 97 ∷ 109 ∷ 101 ∷ 32 ∷ 110 ∷ 111 ∷ 10 ∷ []
-unfolding Text.digits Text.decimal Text.signed Text.integerLine Text.truthLine Text.nodeLine Text.heldLine Text.itemLine
+unfolding Decimal.digits Decimal.decimal Decimal.signed
+    Text.integerLine Text.truthLine Text.nodeLine Text.heldLine Text.itemLine
     Text.refusedLine Text.itemsLine Text.firstLines Text.refusedWith Text.agree Text.verdict Text.sameLine Text.text
 differs = refl
 
@@ -126,6 +132,7 @@ room :
     Text.text (Gave 5) (Refused 6 30) [] (Refused 6 0) []
     ≡ 114 ∷ 101 ∷ 102 ∷ 117 ∷ 115 ∷ 101 ∷ 100 ∷ 32 ∷ 54 ∷ 32 ∷ 97 ∷ 116 ∷ 32 ∷ 51 ∷ 48 ∷ 10
     ∷ 115 ∷ 97 ∷ 109 ∷ 101 ∷ 32 ∷ 114 ∷ 111 ∷ 111 ∷ 109 ∷ 10 ∷ []
-unfolding Text.digits Text.decimal Text.signed Text.integerLine Text.truthLine Text.nodeLine Text.heldLine Text.itemLine
+unfolding Decimal.digits Decimal.decimal Decimal.signed
+    Text.integerLine Text.truthLine Text.nodeLine Text.heldLine Text.itemLine
     Text.refusedLine Text.itemsLine Text.firstLines Text.refusedWith Text.agree Text.verdict Text.sameLine Text.text
 room = refl

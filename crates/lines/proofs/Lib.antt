@@ -1,5 +1,4 @@
 pub mod Putting
-pub mod Magnitudes
 pub mod Lines
 pub mod Verdicts
 pub mod Kept

@@ -22,7 +22,8 @@ use Rattle.lines.specs.declared.Told.{Told}
 use Rattle.lines.specs.declared.Told.the-variants.{Gave, Refused}
 use Rattle.lines.specs.declared.Verdict.{Verdict}
 use Rattle.lines.specs.declared.Verdict.the-variants.{Agree, Differ, Room}
-use Rattle.lines.specs.Text.{Text, digits, decimal, signed, integerLine, truthLine, nodeLine, heldLine, itemLine}
+use Rattle.pen.specs.Decimal.{digits, decimal, signed}
+use Rattle.lines.specs.Text.{Text, integerLine, truthLine, nodeLine, heldLine, itemLine}
 use Rattle.lines.specs.Text.{refusedLine, itemsLine, firstLines, verdict, sameLine, text, lineEnd, atWord}
 use Rattle.lines.specs.Text.{sameNo, Nowhere}
 

@@ -4,11 +4,8 @@
 --     itemsWord, intWord, boolWord, nodeWord     the words that open a line, each with the space behind it
 --     refusedWord, atWord, sameWord              .. `refused `, ` at `, `same `
 --     yesWord, noWord, roomWord                  the three verdicts
---     lineEnd, minus      the end of a line; the sign
+--     lineEnd             the end of a line
 --     truthDigit b        0 or 1
---     digits k n          n in decimal, k digits at most
---     decimal n           n in decimal: twenty digits are enough for 64 bits
---     signed z            .. with its sign
 --     integerLine z, truthLine b, nodeLine r     `int Z`; `bool 0` or `bool 1`; `node R`
 --     heldLine h          the line of what a cell holds; a cell that holds no item has no line
 --     itemLine z          the line of a cell's item
@@ -22,12 +19,12 @@
 --     text ..             all lines: of what the translator, the runner and the evaluator told, and both engines' items
 --     sameNo              the bytes `same no`
 --     Nowhere word t      the bytes of a word stand nowhere in text t
-use Prim.Native.Nat.{ℕ, zero, suc, _+_, _/_, _%_}
+use Prim.Native.Nat.{ℕ}
 use mathlib.Core.Path.{_≡_}
 use mathlib.Core.List.{List, [], _∷_, _++_}
 use mathlib.Core.Bool.{Bool, true, false, cond, _||_}
-use lib.Dec.{ltb, eqb}
-use lib.IntN.{ℤ, pos, negsuc}
+use lib.Dec.{eqb}
+use lib.IntN.{ℤ}
 use lib.ListN.{take}
 use Rattle.cells.specs.Cell.{held}
 use Rattle.cells.specs.declared.Item.the-variants.{Integer, Truth, Node}
@@ -35,6 +32,7 @@ use Rattle.cells.specs.declared.Held.{Held}
 use Rattle.cells.specs.declared.Held.the-variants.{Item, Stray}
 use Rattle.laws.specs.Lists.{gather}
 use Rattle.meaning.specs.Operators.{sameRow}
+use Rattle.pen.specs.Decimal.{decimal, signed}
 use Rattle.lines.specs.declared.Told.{Told}
 use Rattle.lines.specs.declared.Told.the-variants.{Gave, Refused}
 use Rattle.lines.specs.declared.Verdict.{Verdict}
@@ -76,27 +74,13 @@ noWord = 110 ∷ 111 ∷ []
 abbrev pub roomWord : Text
 roomWord = 114 ∷ 111 ∷ 111 ∷ 109 ∷ []
 
--- the end of a line, the digits 0 and 1, '-'
+-- the end of a line, the digits 0 and 1
 abbrev pub lineEnd : Text
 lineEnd = 10 ∷ []
 
 abbrev pub truthDigit : Bool → Text
 truthDigit false = 48 ∷ []
 truthDigit true = 49 ∷ []
-
-abbrev pub minus : Text
-minus = 45 ∷ []
-
-unfoldable pub digits : ℕ → ℕ → Text
-digits zero n = []
-digits (suc k) n = cond (ltb n 10) ((48 + n) ∷ []) (digits k (n / 10) ++ ((48 + n % 10) ∷ []))
-
-unfoldable pub decimal : ℕ → Text
-decimal n = digits 20 n
-
-unfoldable pub signed : ℤ → Text
-signed (pos n) = decimal n
-signed (negsuc n) = minus ++ decimal (suc n)
 
 unfoldable pub integerLine : ℤ → Text
 integerLine z = intWord ++ (signed z ++ lineEnd)

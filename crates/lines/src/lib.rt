@@ -1,12 +1,12 @@
 // The text that the printing program prints, from what the translator and the two engines told.
 mod items;
-pub mod numbers;
 
 ghost use mathlib.Core.Path.{_≡_};
-ghost use Prim.Native.Nat.{_+_, _*_, _≤_};
+ghost use Prim.Native.Nat.{_+_, _*_, _^_, _≤_, _<_};
 ghost use lib.ListN.{length};
 ghost use Rattle.laws.specs.Rows.{rowsAt, laid};
 ghost use Rattle.meaning.specs.Operators;
+ghost use Rattle.pen.specs.Penned.{Pens};
 ghost use Rattle.lines.specs.Text;
 ghost use Rattle.lines.specs.Placed.{Put, Stands, roomFor};
 
@@ -39,23 +39,24 @@ pub fn keep(work: &[i64], start: usize, rows: usize, kept: &mut [i64])
 
 // `refused n at p`.
 fn put_refusal(text: &mut [u8], at: usize, number: usize, place: usize) -> usize
-    requires { ⌜ at + 64 ≤ length (now text) ⌝ }
-    ensures { λ r. ⌜ Put (now (text .entry)) (now (text .exit)) at (Text.refusedLine number place) r × (r ≤ at + 64) ⌝ }
+    requires { ⌜ at + 64 < 2 ^ 64 ⌝ }
+    ensures { λ r. ⌜ Pens at (Text.refusedLine number place) (now (text .entry)) (now (text .exit)) r
+        × (r ≤ at + 64) ⌝ }
 {
-    let a = numbers::put_word(text, at, b"refused ");
-    let b = numbers::put_number(text, a, number);
-    numbers::put_line(text, b, b" at ", place)
+    let a = pen::put_word(text, at, b"refused ");
+    let b = pen::put_number(text, a, number);
+    items::put_line(text, b, b" at ", place)
 }
 
 // The number of items and each item, or the refusal.
 fn put_first(text: &mut [u8], at: usize, told: Told, cells: &[i64]) -> usize
-    requires { ⌜ (at + roomFor told ≤ length (now text)) × Stands (length (now cells)) told ⌝ }
-    ensures { λ r. ⌜ Put (now (text .entry)) (now (text .exit)) at (Text.firstLines told (now (cells .entry))) r
+    requires { ⌜ (at + roomFor told < 2 ^ 64) × Stands (length (now cells)) told ⌝ }
+    ensures { λ r. ⌜ Pens at (Text.firstLines told (now (cells .entry))) (now (text .entry)) (now (text .exit)) r
         × (r + 64 ≤ at + roomFor told) ⌝ }
 {
     match told {
         Told::Gave(n) => {
-            let a = numbers::put_line(text, at, b"items ", n);
+            let a = items::put_line(text, at, b"items ", n);
             items::put_items(text, a, cells, n)
         }
         Told::Refused(number, place) => put_refusal(text, at, number, place),
@@ -64,13 +65,13 @@ fn put_first(text: &mut [u8], at: usize, told: Told, cells: &[i64]) -> usize
 
 // `same` and the verdict.
 fn put_verdict(text: &mut [u8], at: usize, v: Verdict) -> usize
-    requires { ⌜ at + 64 ≤ length (now text) ⌝ }
-    ensures { λ r. ⌜ Put (now (text .entry)) (now (text .exit)) at (Text.sameLine v) r ⌝ }
+    requires { ⌜ at + 64 < 2 ^ 64 ⌝ }
+    ensures { λ r. ⌜ Pens at (Text.sameLine v) (now (text .entry)) (now (text .exit)) r × (r ≤ at + 64) ⌝ }
 {
     match v {
-        Verdict::Agree => numbers::put_word(text, at, b"same yes\n"),
-        Verdict::Differ => numbers::put_word(text, at, b"same no\n"),
-        Verdict::Room => numbers::put_word(text, at, b"same room\n"),
+        Verdict::Agree => pen::put_word(text, at, b"same yes\n"),
+        Verdict::Differ => pen::put_word(text, at, b"same no\n"),
+        Verdict::Room => pen::put_word(text, at, b"same room\n"),
     }
 }
 

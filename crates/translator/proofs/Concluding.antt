@@ -29,7 +29,7 @@ use Rattle.queries.specs.declared.Checked.the-variants as Checked
 use Rattle.queries.specs.Answers as Queries
 use Rattle.query_walks.specs.Parse.{parse}
 use Rattle.query_walks.proofs.Accepting.{query-accepted}
-use Rattle.writing.proofs.Penned.{cleared-from-0, cleared-penned}
+use Rattle.pen.proofs.Penned.{cleared-from-0, cleared-penned}
 use Rattle.adding.specs.declared.Pen.{Pen}
 use Rattle.adding.specs.declared.Output.{Output}
 use Rattle.adding.specs.Ruled.{Room, Wrote}

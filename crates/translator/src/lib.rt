@@ -48,14 +48,14 @@ fn whole(query: &[u8], plan: &mut [u8]) -> Translated
     let operators = end.operators;
     let bytes = end.at;
     if OPERATORS < operators {
-        writing::clear(plan, 0);
+        pen::clear(plan, 0);
         return Translated::Excess(0);
     }
     if plan.len() < bytes {
-        writing::clear(plan, 0);
+        pen::clear(plan, 0);
         return Translated::Longer;
     }
-    writing::clear(plan, bytes);
+    pen::clear(plan, bytes);
     Translated::Plan { operators, bytes }
 }
 
@@ -67,7 +67,7 @@ pub fn translate(query: &[u8], plan: &mut [u8]) -> Translated
 {
     let checked = queries::check(query);
     let Checked::Records(_) = checked else {
-        writing::clear(plan, 0);
+        pen::clear(plan, 0);
         return handed_up(checked);
     };
     whole(query, plan)

@@ -20,9 +20,10 @@ use Rattle.cells.specs.declared.Held.{Held}
 use Rattle.cells.specs.declared.Held.the-variants as Held
 use Rattle.laws.specs.Lists.{gather}
 use Rattle.laws.proofs.Filters.{gather-append}
-use Rattle.lines.specs.Text.{decimal, signed, nodeWord, lineEnd}
-use Rattle.lines.specs.Placed.{Put}
-use Rattle.lines.proofs.Putting.{put-text}
+use Rattle.pen.specs.Penned.{Pens}
+use Rattle.pen.specs.Decimal.{decimal, signed}
+use Rattle.lines.specs.Text.{nodeWord, lineEnd}
+use Rattle.lines.proofs.Putting.{put-penned, put-text}
 use Rattle.views.specs.Rows.{truthWord, heldText, cellText, atRight, column, rowLine}
 
 -- the text of a cell: h is what it holds, read from v
@@ -64,11 +65,12 @@ right-short w n k e f =
 pub taken-short : (k : ℕ) (xs : List ℕ) → length (take k xs) ≤ k
 taken-short k xs = simp length-take (omega arith)
 
-pub column-is : (xs ys : List ℕ) (k n : ℕ) (v z : ℤ) → Put xs ys 0 (cellText v) n → v ≡ z → k ≡ n
+pub column-is : (xs ys : List ℕ) (k n : ℕ) (v z : ℤ) → n ≤ length xs → Pens 0 (cellText v) xs ys n → v ≡ z → k ≡ n
     → atRight (take k ys) ≡ column z
 unfolding column
-column-is xs ys k n v z p e f =
-    ap atRight (ap (λ (j : ℕ). take j ys) f ∙ put-text xs ys (cellText v) n p ∙ ap cellText e)
+column-is xs ys k n v z h p e f =
+    let put = put-penned xs 0 ys (cellText v) n h p in
+    ap atRight (ap (λ (j : ℕ). take j ys) f ∙ put-text xs ys (cellText v) n put ∙ ap cellText e)
 
 pub columns-more : (cells : List ℤ) (i : ℕ) (z : ℤ) → z ≡ getD cells i (pos 0) → i < length cells
     → gather column (take i cells) ++ column z ≡ gather column (take (i + 1) cells)

@@ -14,7 +14,8 @@ use Rattle.cells.specs.declared.Item.the-variants.{Integer, Truth, Node}
 use Rattle.cells.specs.declared.Held.{Held}
 use Rattle.cells.specs.declared.Held.the-variants.{Item, Stray}
 use Rattle.laws.specs.Lists.{gather}
-use Rattle.lines.specs.Text.{Text, decimal, signed, nodeWord, lineEnd}
+use Rattle.pen.specs.Decimal.{decimal, signed}
+use Rattle.lines.specs.Text.{Text, nodeWord, lineEnd}
 
 abbrev pub truthWord : Bool → Text
 truthWord false = 102 ∷ 97 ∷ 108 ∷ 115 ∷ 101 ∷ []

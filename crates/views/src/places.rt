@@ -5,7 +5,6 @@ ghost use lib.ListN.{length};
 ghost use Rattle.lines.specs.Placed.{Put};
 ghost use Rattle.runner.specs.Answers.{answered};
 ghost use Rattle.views.specs.Places.{askedPlan, placeIn, placed, Standing};
-use lines::numbers::put_word;
 use runner::Ran;
 
 // The cells of a table, from `start` up to `end`; or that there is no such table.
@@ -20,12 +19,12 @@ pub fn ask(plan: &[u8], end: usize, n: usize, width: usize, asked: &mut [u8]) ->
     requires { ⌜ (end ≤ length (now plan)) × (end + 8 ≤ length (now asked)) × (n < 512) ⌝ }
     ensures { λ r. ⌜ Put (now (asked .entry)) (now (asked .exit)) 0 (askedPlan (now (plan .entry)) end n width) r ⌝ }
 {
-    let a = put_word(asked, 0, &plan[0..end]);
+    let a = pen::put_word(asked, 0, &plan[0..end]);
     if width == 3 {
         return a;
     }
     let more = [0x52u8, 0x50, (n / 256) as u8, (n % 256) as u8, 3, 0, 0, 0];
-    put_word(asked, a, &more)
+    pen::put_word(asked, a, &more)
 }
 
 // The cells from `start` up to `end`, where all up to there are in the room.

@@ -1,2 +1,1 @@
-pub mod Penned
 pub mod Putting

@@ -1,18 +1,16 @@
 // Writing the records of a plan over lent bytes. Each function takes the position to write at and gives the position
-// after. It runs on past the lent end, and what does not fit is not written. No function loops but `clear`.
+// after. No function loops.
 use codes::Axis;
 use codes::Function;
 use codes::Test;
 use codes::marks;
-ghost use mathlib.Core.Path.{_≡_};
 ghost use mathlib.Core.List.{[], _∷_, _++_};
 ghost use Prim.Native.Nat.{_+_, _^_, _<_};
-ghost use lib.ListN.{length, take};
-ghost use Rattle.cells.specs.Bytes.{bytesOf, bits8};
+ghost use lib.ListN.{length};
+ghost use Rattle.cells.specs.Bytes.{bytesOf};
 ghost use Rattle.meaning.specs.Plan.{RT, RA, RP, RU, RD, RS, RJ, RN, RF, RV, RC, RE, RK, RX, RO};
 ghost use Rattle.meaning.specs.Written.{operatorBytes};
-ghost use Rattle.laws.specs.Rows.{padded};
-ghost use Rattle.writing.specs.Penned.{Pens};
+ghost use Rattle.pen.specs.Penned.{Pens};
 ghost use Rattle.writing.specs.Listed.{columnsOf, keysOf};
 
 // The columns of a projection: the rules of the translation name one to four.
@@ -29,73 +27,6 @@ pub enum Keys {
     Two(u8, u8),
 }
 
-// Writes one byte, where there is room for it.
-pub fn put(plan: &mut [u8], at: usize, byte: u8) -> usize
-    requires { ⌜ at + 1 < 2 ^ 64 ⌝ }
-    ensures { λ r. ⌜ Pens at (byte ∷ []) (now (plan .entry)) (now (plan .exit)) r ⌝ }
-{
-    if plan.len() <= at {
-        return at + 1;
-    }
-    plan[at] = byte;
-    at + 1
-}
-
-// Writes the last two bytes of a number, the higher first.
-pub fn put2(plan: &mut [u8], at: usize, number: usize) -> usize
-    requires { ⌜ at + 2 < 2 ^ 64 ⌝ }
-    ensures { λ r. ⌜ Pens at (bytesOf 2 number) (now (plan .entry)) (now (plan .exit)) r ⌝ }
-{
-    let low = put(plan, at, (number / 256 % 256) as u8);
-    put(plan, low, (number % 256) as u8)
-}
-
-// Writes the last four bytes of a number.
-fn put4(plan: &mut [u8], at: usize, number: usize) -> usize
-    requires { ⌜ at + 4 < 2 ^ 64 ⌝ }
-    ensures { λ r. ⌜ Pens at (bytesOf 4 number) (now (plan .entry)) (now (plan .exit)) r ⌝ }
-{
-    let low = put2(plan, at, number / 0x1_0000);
-    put2(plan, low, number)
-}
-
-// Writes the eight bytes of a cell.
-pub fn put8(plan: &mut [u8], at: usize, cell: i64) -> usize
-    requires { ⌜ at + 8 < 2 ^ 64 ⌝ }
-    ensures { λ r. ⌜ Pens at (bytesOf 8 (bits8 cell)) (now (plan .entry)) (now (plan .exit)) r ⌝ }
-{
-    let number = cells::bits_of(cell);
-    let low = put4(plan, at, number / 0x1_0000_0000);
-    put4(plan, low, number)
-}
-
-// Writes two bytes.
-fn put_pair(plan: &mut [u8], at: usize, a: u8, b: u8) -> usize
-    requires { ⌜ at + 2 < 2 ^ 64 ⌝ }
-    ensures { λ r. ⌜ Pens at (a ∷ b ∷ []) (now (plan .entry)) (now (plan .exit)) r ⌝ }
-{
-    let second = put(plan, at, a);
-    put(plan, second, b)
-}
-
-// Writes three bytes.
-fn put_three(plan: &mut [u8], at: usize, a: u8, b: u8, c: u8) -> usize
-    requires { ⌜ at + 3 < 2 ^ 64 ⌝ }
-    ensures { λ r. ⌜ Pens at (a ∷ b ∷ c ∷ []) (now (plan .entry)) (now (plan .exit)) r ⌝ }
-{
-    let second = put(plan, at, a);
-    put_pair(plan, second, b, c)
-}
-
-// Writes four bytes.
-fn put_four(plan: &mut [u8], at: usize, a: u8, b: u8, c: u8, d: u8) -> usize
-    requires { ⌜ at + 4 < 2 ^ 64 ⌝ }
-    ensures { λ r. ⌜ Pens at (a ∷ b ∷ c ∷ d ∷ []) (now (plan .entry)) (now (plan .exit)) r ⌝ }
-{
-    let third = put_pair(plan, at, a, b);
-    put_pair(plan, third, c, d)
-}
-
 // Writes how many columns there are, then each.
 fn put_columns(plan: &mut [u8], at: usize, columns: Columns) -> usize
     requires { ⌜ at + 5 < 2 ^ 64 ⌝ }
@@ -103,12 +34,12 @@ fn put_columns(plan: &mut [u8], at: usize, columns: Columns) -> usize
         (now (plan .entry)) (now (plan .exit)) r ⌝ }
 {
     match columns {
-        Columns::One(a) => put_pair(plan, at, 1, a),
-        Columns::Two(a, b) => put_three(plan, at, 2, a, b),
-        Columns::Three(a, b, c) => put_four(plan, at, 3, a, b, c),
+        Columns::One(a) => pen::put_pair(plan, at, 1, a),
+        Columns::Two(a, b) => pen::put_three(plan, at, 2, a, b),
+        Columns::Three(a, b, c) => pen::put_four(plan, at, 3, a, b, c),
         Columns::Four(a, b, c, d) => {
-            let first = put(plan, at, 4);
-            put_four(plan, first, a, b, c, d)
+            let first = pen::put(plan, at, 4);
+            pen::put_four(plan, first, a, b, c, d)
         }
     }
 }
@@ -119,8 +50,8 @@ fn put_keys(plan: &mut [u8], at: usize, keys: Keys) -> usize
     ensures { λ r. ⌜ Pens at (length (keysOf keys) ∷ keysOf keys) (now (plan .entry)) (now (plan .exit)) r ⌝ }
 {
     match keys {
-        Keys::One(a) => put_pair(plan, at, 1, a),
-        Keys::Two(a, b) => put_three(plan, at, 2, a, b),
+        Keys::One(a) => pen::put_pair(plan, at, 1, a),
+        Keys::Two(a, b) => pen::put_three(plan, at, 2, a, b),
     }
 }
 
@@ -129,8 +60,8 @@ fn head(plan: &mut [u8], at: usize, mark: usize, t: usize) -> usize
     requires { ⌜ at + 4 < 2 ^ 64 ⌝ }
     ensures { λ r. ⌜ Pens at (bytesOf 2 mark ++ bytesOf 2 t) (now (plan .entry)) (now (plan .exit)) r ⌝ }
 {
-    let table = put2(plan, at, mark);
-    put2(plan, table, t)
+    let table = pen::put2(plan, at, mark);
+    pen::put2(plan, table, t)
 }
 
 // Writes a record of one table and one byte.
@@ -139,7 +70,7 @@ fn with_byte(plan: &mut [u8], at: usize, mark: usize, t: usize, byte: u8) -> usi
     ensures { λ r. ⌜ Pens at (bytesOf 2 mark ++ bytesOf 2 t ++ byte ∷ []) (now (plan .entry)) (now (plan .exit)) r ⌝ }
 {
     let field = head(plan, at, mark, t);
-    put(plan, field, byte)
+    pen::put(plan, field, byte)
 }
 
 // Writes a record of two tables.
@@ -148,7 +79,7 @@ fn with_table(plan: &mut [u8], at: usize, mark: usize, t: usize, u: usize) -> us
     ensures { λ r. ⌜ Pens at (bytesOf 2 mark ++ bytesOf 2 t ++ bytesOf 2 u) (now (plan .entry)) (now (plan .exit)) r ⌝ }
 {
     let table = head(plan, at, mark, t);
-    put2(plan, table, u)
+    pen::put2(plan, table, u)
 }
 
 // RT: one row, one cell, 1.
@@ -156,7 +87,7 @@ pub fn one(plan: &mut [u8], at: usize) -> usize
     requires { ⌜ at + 16 < 2 ^ 64 ⌝ }
     ensures { λ r. ⌜ Pens at (operatorBytes RT) (now (plan .entry)) (now (plan .exit)) r ⌝ }
 {
-    put2(plan, at, marks::RT)
+    pen::put2(plan, at, marks::RT)
 }
 
 // RA: adds a column of that cell.
@@ -165,7 +96,7 @@ pub fn attach(plan: &mut [u8], at: usize, t: usize, cell: i64) -> usize
     ensures { λ r. ⌜ Pens at (operatorBytes (RA t cell)) (now (plan .entry)) (now (plan .exit)) r ⌝ }
 {
     let field = head(plan, at, marks::RA, t);
-    put8(plan, field, cell)
+    pen::put8(plan, field, cell)
 }
 
 // RP: those columns.
@@ -207,9 +138,9 @@ pub fn join(plan: &mut [u8], at: usize, t: usize, c: u8, u: usize, d: u8) -> usi
     ensures { λ r. ⌜ Pens at (operatorBytes (RJ t c u d)) (now (plan .entry)) (now (plan .exit)) r ⌝ }
 {
     let field = head(plan, at, marks::RJ, t);
-    let table = put(plan, field, c);
-    let last = put2(plan, table, u);
-    put(plan, last, d)
+    let table = pen::put(plan, field, c);
+    let last = pen::put2(plan, table, u);
+    pen::put(plan, last, d)
 }
 
 // RN: rows in rising order by column p (255: none), then the keys; adds a column counting from 1 within equal p.
@@ -218,7 +149,7 @@ pub fn number(plan: &mut [u8], at: usize, t: usize, p: u8, keys: Keys) -> usize
     ensures { λ r. ⌜ Pens at (operatorBytes (RN t p (keysOf keys))) (now (plan .entry)) (now (plan .exit)) r ⌝ }
 {
     let field = head(plan, at, marks::RN, t);
-    let list = put(plan, field, p);
+    let list = pen::put(plan, field, p);
     put_keys(plan, list, keys)
 }
 
@@ -229,7 +160,7 @@ pub fn apply(plan: &mut [u8], at: usize, t: usize, f: Function, c: u8, d: u8) ->
 {
     let field = head(plan, at, marks::RF, t);
     let number = codes::function_number(f);
-    put_three(plan, field, number, c, d)
+    pen::put_three(plan, field, number, c, d)
 }
 
 // RF with function 7: adds the value of one cell.
@@ -238,7 +169,7 @@ pub fn value(plan: &mut [u8], at: usize, t: usize, c: u8) -> usize
     ensures { λ r. ⌜ Pens at (operatorBytes (RV t c)) (now (plan .entry)) (now (plan .exit)) r ⌝ }
 {
     let field = head(plan, at, marks::RF, t);
-    put_pair(plan, field, 7, c)
+    pen::put_pair(plan, field, 7, c)
 }
 
 // RC: how many rows hold each cell of column c.
@@ -271,13 +202,13 @@ pub fn step(plan: &mut [u8], at: usize, t: usize, axis: Axis, test: Test) -> usi
     ensures { λ r. ⌜ Pens at (operatorBytes (RX t axis test)) (now (plan .entry)) (now (plan .exit)) r ⌝ }
 {
     let field = head(plan, at, marks::RX, t);
-    let name = put_pair(
+    let name = pen::put_pair(
         plan,
         field,
         codes::axis_number(axis),
         codes::test_number(test),
     );
-    put2(plan, name, codes::test_name(test))
+    pen::put2(plan, name, codes::test_name(test))
 }
 
 // RO: adds the root of fragment k.
@@ -286,15 +217,4 @@ pub fn root(plan: &mut [u8], at: usize, t: usize, k: u8) -> usize
     ensures { λ r. ⌜ Pens at (operatorBytes (RO t k)) (now (plan .entry)) (now (plan .exit)) r ⌝ }
 {
     with_byte(plan, at, marks::RO, t, k)
-}
-
-// Zeroes every byte from `from` on.
-pub fn clear(plan: &mut [u8], from: usize)
-    ensures { λ r. ⌜ now (plan .exit) ≡ padded 0 (length (now (plan .entry))) (take from (now (plan .entry))) ⌝ }
-{
-    let mut i = from;
-    while i < plan.len() {
-        plan[i] = 0;
-        i += 1;
-    }
 }

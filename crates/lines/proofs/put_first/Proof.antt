@@ -2,7 +2,7 @@
 use mathlib.Core.Path.{refl, _∙_}
 use native.Mathlib.Omega.{arith}
 use Rattle.lines.specs.Text.{itemsLine}
-use Rattle.lines.proofs.Putting.{put-then, put-is}
+use Rattle.pen.proofs.Putting.{pens-more, pens-as}
 use Rattle.lines.proofs.Lines.{first-gave, first-refused, room-gave, room-refused}
 use Rattle.lines.proofs.Verdicts.{stands-gave}
 use borrow.Author.Needs.{needs}
@@ -28,7 +28,6 @@ put-items-requires c κs =
       omega (
         arith,
         room-gave _ (start .args .cells .now) _ (case .told .given .1),
-        count .put-line .kept .0,
         count .put-line .ensures .1,
       ),
       stands-gave _ _ _ (case .told .given .1) (start .pre .1),
@@ -54,8 +53,8 @@ returns c =
     let count = items .before .before .before .before in
     let case = count .before .before .before .before in
     let start = case .before .before .before in (
-      put-is _ _ _ _ _ (put-then _ _ _ _ _ (count .put-line .ensures .0) _ _ _ (items .put-items .ensures .0)) _
-          (first-gave _ _ _ (case .told .given .1)),
+      pens-as (first-gave _ _ _ (case .told .given .1))
+          (pens-more (count .put-line .ensures .0) (items .put-items .ensures .0)),
       omega (
         arith,
         room-gave _ (start .args .cells .now) _ (case .told .given .1),
@@ -72,7 +71,7 @@ returns-2 c =
     let line = c .before .before in
     let case = line .before .before .before in
     let start = case .before .before .before in (
-      put-is _ _ _ _ _ (line .put-refusal .ensures .0) _ (first-refused _ _ _ _ (case .told2 .given .1)),
+      pens-as (first-refused _ _ _ _ (case .told2 .given .1)) (line .put-refusal .ensures .0),
       omega (
         arith,
         room-refused _ (start .args .cells .now) _ _ (case .told2 .given .1),

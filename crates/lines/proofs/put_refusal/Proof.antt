@@ -2,7 +2,8 @@
 use mathlib.Core.Path.{refl, _∙_}
 use native.Mathlib.Omega.{arith}
 use Rattle.lines.specs.Text.{refusedLine}
-use Rattle.lines.proofs.Putting.{put-then}
+use Rattle.pen.proofs.Putting.{pens-more}
+use Rattle.pen.proofs.Digits.{decimal-end}
 use Rattle.lines.proofs.put_refusal.Statement.{statement}
 use Rattle.lines.proofs.put_refusal.Tie as tie
 
@@ -15,7 +16,7 @@ put-word-requires c κs = omega arith
 put-number-requires : tie.Need-put-number-requires
 put-number-requires c κs =
     let word = c .before .before .before in
-    omega (arith, word .put-word .kept .0, word .put-word .ensures .ended)
+    omega (arith, word .put-word .ensures .ends)
 
 slice-aggregate-put-line : tie.Need-slice-aggregate-put-line
 slice-aggregate-put-line c = refl
@@ -24,13 +25,7 @@ put-line-requires : tie.Need-put-line-requires
 put-line-requires c κs =
     let number = c .before .before .before .before in
     let word = number .before .before .before .before in
-    omega (
-      arith,
-      word .put-word .kept .0,
-      word .put-word .ensures .ended,
-      number .put-number .kept .0,
-      number .put-number .ensures .1,
-    )
+    omega (arith, word .put-word .ensures .ends, decimal-end _ (number .put-number .ensures))
 
 same-length : tie.Need-same-length
 same-length c =
@@ -45,9 +40,13 @@ returns c =
     let place = c .before .before in
     let number = place .before .before .before .before .before in
     let word = number .before .before .before .before in (
-      put-then _ _ _ _ _ (word .put-word .ensures) _ _ _
-          (put-then _ _ _ _ _ (number .put-number .ensures .0) _ _ _ (place .put-line .ensures .0)),
-      omega (arith, word .put-word .ensures .ended, number .put-number .ensures .1, place .put-line .ensures .1),
+      pens-more (word .put-word .ensures) (pens-more (number .put-number .ensures) (place .put-line .ensures .0)),
+      omega (
+        arith,
+        word .put-word .ensures .ends,
+        decimal-end _ (number .put-number .ensures),
+        place .put-line .ensures .1,
+      ),
     )
 
 pub put-refusal-spec : {M : Type 1} → statement M

@@ -2,7 +2,7 @@
 use mathlib.Core.Path.{refl, sym, ap}
 use native.Mathlib.Omega.{arith}
 use Rattle.lines.specs.Text.{sameLine}
-use Rattle.lines.proofs.Putting.{put-is}
+use Rattle.pen.proofs.Putting.{pens-as}
 use borrow.Author.Needs.{needs}
 use Rattle.lines.proofs.put_verdict.Statement.{statement}
 use Rattle.lines.proofs.put_verdict.Tie as tie
@@ -40,8 +40,10 @@ same-length c = c .before .before .put-word .kept .0
 returns : tie.Need-returns
 unfolding sameLine
 returns c =
-    let word = c .before .before in
-    put-is _ _ _ _ _ (word .put-word .ensures) _ (sym (ap sameLine (word .before .before .before .enum-told .given .1)))
+    let word = c .before .before in (
+      pens-as (sym (ap sameLine (word .before .before .before .enum-told .given .1))) (word .put-word .ensures),
+      omega (arith, word .put-word .ensures .ends),
+    )
 
 same-length-2 : tie.Need-same-length-2
 same-length-2 c = c .before .before .put-word2 .kept .0
@@ -49,9 +51,10 @@ same-length-2 c = c .before .before .put-word2 .kept .0
 returns-2 : tie.Need-returns-2
 unfolding sameLine
 returns-2 c =
-    let word = c .before .before in
-    put-is _ _ _ _ _ (word .put-word2 .ensures) _
-    (sym (ap sameLine (word .before .before .before .enum-told2 .given .1)))
+    let word = c .before .before in (
+      pens-as (sym (ap sameLine (word .before .before .before .enum-told2 .given .1))) (word .put-word2 .ensures),
+      omega (arith, word .put-word2 .ensures .ends),
+    )
 
 same-length-3 : tie.Need-same-length-3
 same-length-3 c = c .before .before .put-word3 .kept .0
@@ -59,9 +62,10 @@ same-length-3 c = c .before .before .put-word3 .kept .0
 returns-3 : tie.Need-returns-3
 unfolding sameLine
 returns-3 c =
-    let word = c .before .before in
-    put-is _ _ _ _ _ (word .put-word3 .ensures) _
-    (sym (ap sameLine (word .before .before .before .enum-told3 .given .1)))
+    let word = c .before .before in (
+      pens-as (sym (ap sameLine (word .before .before .before .enum-told3 .given .1))) (word .put-word3 .ensures),
+      omega (arith, word .put-word3 .ensures .ends),
+    )
 
 pub put-verdict-spec : {M : Type 1} → statement M
 put-verdict-spec =

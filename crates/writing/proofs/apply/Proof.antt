@@ -1,7 +1,7 @@
 -- `apply` meets its contract.
 use Rattle.cells.specs.Bytes.{bytesOf}
 use Rattle.meaning.specs.Written.{operatorBytes}
-use Rattle.writing.proofs.Putting.{pens-more, pens-first}
+use Rattle.pen.proofs.Putting.{pens-more, pens-first}
 use borrow.Author.Needs.{needs}
 use Rattle.writing.proofs.apply.Statement.{statement}
 use Rattle.writing.proofs.apply.Tie as tie

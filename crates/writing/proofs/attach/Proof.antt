@@ -4,7 +4,7 @@ use mir.Facts.{toZ-ofZ}
 use lib.IntN.{ℤ}
 use Rattle.cells.specs.Bytes.{bytesOf, bits8}
 use Rattle.meaning.specs.Written.{operatorBytes}
-use Rattle.writing.proofs.Putting.{pens-more, pens-as}
+use Rattle.pen.proofs.Putting.{pens-more, pens-as}
 use borrow.Author.Needs.{needs}
 use Rattle.writing.proofs.attach.Statement.{statement}
 use Rattle.writing.proofs.attach.Tie as tie

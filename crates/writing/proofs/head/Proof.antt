@@ -1,6 +1,6 @@
 -- `head` meets its contract.
 use Rattle.cells.specs.Bytes.{bytesOf}
-use Rattle.writing.proofs.Putting.{pens-more}
+use Rattle.pen.proofs.Putting.{pens-more}
 use borrow.Author.Needs.{needs}
 use Rattle.writing.proofs.head.Statement.{statement}
 use Rattle.writing.proofs.head.Tie as tie

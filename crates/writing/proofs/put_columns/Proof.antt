@@ -5,7 +5,7 @@ use mathlib.Core.List.{List, _∷_}
 use lib.ListN.{length}
 use Rattle.writing.specs.declared.Columns.{Columns}
 use Rattle.writing.specs.Listed.{columnsOf}
-use Rattle.writing.proofs.Putting.{pens-more, pens-as}
+use Rattle.pen.proofs.Putting.{pens-more, pens-as}
 use borrow.Author.Needs.{needs}
 use Rattle.writing.proofs.put_columns.Statement.{statement}
 use Rattle.writing.proofs.put_columns.Tie as tie

@@ -5,7 +5,7 @@ use mathlib.Core.List.{List, _∷_}
 use lib.ListN.{length}
 use Rattle.writing.specs.declared.Keys.{Keys}
 use Rattle.writing.specs.Listed.{keysOf}
-use Rattle.writing.proofs.Putting.{pens-as}
+use Rattle.pen.proofs.Putting.{pens-as}
 use borrow.Author.Needs.{needs}
 use Rattle.writing.proofs.put_keys.Statement.{statement}
 use Rattle.writing.proofs.put_keys.Tie as tie

@@ -4,7 +4,7 @@ use mathlib.Core.Path.{ap, ap₂}
 use mathlib.Core.List.{[], _∷_}
 use Rattle.cells.specs.Bytes.{bytesOf}
 use Rattle.meaning.specs.Written.{operatorBytes}
-use Rattle.writing.proofs.Putting.{pens-more, pens-as}
+use Rattle.pen.proofs.Putting.{pens-more, pens-as}
 use borrow.Author.Needs.{needs}
 use Rattle.writing.proofs.step.Statement.{statement}
 use Rattle.writing.proofs.step.Tie as tie

@@ -1,6 +1,6 @@
 -- `with_table` meets its contract.
 use Rattle.cells.specs.Bytes.{bytesOf}
-use Rattle.writing.proofs.Putting.{pens-more}
+use Rattle.pen.proofs.Putting.{pens-more}
 use borrow.Author.Needs.{needs}
 use Rattle.writing.proofs.with_table.Statement.{statement}
 use Rattle.writing.proofs.with_table.Tie as tie

@@ -5,7 +5,7 @@ use mir.Syntax.{w32}
 use mir.Val.{SFits}
 use mir.Facts.{toZ-ofZ}
 use Rattle.lines.specs.Text.{nodeLine}
-use Rattle.lines.proofs.Putting.{put-none, put-is}
+use Rattle.pen.proofs.Putting.{pens-none, pens-as}
 use Rattle.lines.proofs.Lines.{line-stray, line-integer, line-truth, line-node}
 use borrow.Author.Needs.{needs}
 use Rattle.lines.proofs.items.put_item.Statement.{statement}
@@ -23,9 +23,10 @@ enum-told c = search needs
 returns : tie.Need-returns
 returns c =
     let item = c .before .before in (
-      put-is _ _ _ _ _ (put-none _ _ (omega arith)) _
+      pens-as
           (line-stray _ _ _ (toZ-ofZ (item .before .before .fits .cell)) (item .item-of .ensures)
-          (c .enum-told .given .1)),
+          (c .enum-told .given .1))
+          (pens-none _ _),
       omega arith,
     )
 
@@ -63,10 +64,11 @@ returns-2 c =
     let case = line .before .before in
     let held = case .before .before .before .before in
     let item = held .before .before in (
-      put-is _ _ _ _ _ (line .put-integer .ensures .0) _
+      pens-as
           (line-integer _ _ _ (toZ-ofZ (item .before .before .fits .cell)) (item .item-of .ensures) _
           (held .held .given .1) _ _
-          (toZ-ofZ (narrow case)) (case .before .item .given .1)),
+          (toZ-ofZ (narrow case)) (case .before .item .given .1))
+          (line .put-integer .ensures .0),
       line .put-integer .ensures .1,
     )
 
@@ -79,10 +81,11 @@ returns-3 c =
     let case = line .before .before in
     let held = case .before .before .before .before in
     let item = held .before .before in (
-      put-is _ _ _ _ _ (line .put-truth .ensures .0) _
+      pens-as
           (line-truth _ _ _ (toZ-ofZ (item .before .before .fits .cell)) (item .item-of .ensures) _
           (held .held .given .1) _
-          (case .before .item2 .given .1)),
+          (case .before .item2 .given .1))
+          (line .put-truth .ensures .0),
       line .put-truth .ensures .1,
     )
 
@@ -96,10 +99,11 @@ returns-4 c =
     let case = line .before .before .before in
     let held = case .before .before .before .before in
     let item = held .before .before in (
-      put-is _ _ _ _ _ (line .put-line .ensures .0) _
+      pens-as
           (line-node _ _ _ (toZ-ofZ (item .before .before .fits .cell)) (item .item-of .ensures) _
           (held .held .given .1) _
-          (case .before .item3 .given .1)),
+          (case .before .item3 .given .1))
+          (line .put-line .ensures .0),
       omega (arith, line .put-line .ensures .1),
     )
 

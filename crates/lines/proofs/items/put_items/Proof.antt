@@ -7,26 +7,26 @@ use lib.ListN.{length, take}
 use mir.Facts.{toZ-ofZ}
 use Rattle.laws.specs.Lists.{gather}
 use Rattle.lines.specs.Text.{itemLine}
-use Rattle.lines.specs.Placed.{Put}
-use Rattle.lines.proofs.Putting.{put-none, put-then, put-is, put-length}
+use Rattle.pen.specs.Penned.{Pens}
+use Rattle.pen.proofs.Putting.{pens-none, pens-more, pens-as, pens-length}
 use Rattle.lines.proofs.Lines.{lines-more}
 use Rattle.lines.proofs.items.put_items.Statement.{statement}
 use Rattle.lines.proofs.items.put_items.Tie as tie
 
 abbrev Inv-loop : tie.InvT-loop
 Inv-loop text₀ at cells n end₀ i₀ text end i =
-    (i ≤ n) × (end ≤ at + 32 * i) × Put text₀ text at (gather itemLine (take i cells)) end
+    (i ≤ n) × (end ≤ at + 32 * i) × Pens at (gather itemLine (take i cells)) text₀ text end
 
 abbrev μ-loop : tie.MeasureT-loop
 μ-loop text₀ at cells n end₀ i₀ text end i = n - i
 
 loop-holds : tie.Need-loop-holds Inv-loop μ-loop
 unfolding gather
-loop-holds c = (omega arith, omega arith, put-none _ _ (omega arith))
+loop-holds c = (omega arith, omega arith, pens-none _ _)
 
 -- the text stays as long
 long : (c : tie.At-loop Inv-loop μ-loop) → length (c .loop .text) ≡ length (c .before .before .args .text .now)
-long c = put-length _ _ _ _ _ (c .loop .inv .2)
+long c = pens-length (c .loop .inv .2)
 
 mul-put-item : tie.Need-mul-put-item Inv-loop μ-loop
 mul-put-item c = omega arith
@@ -35,7 +35,7 @@ shared-slice-copy-out-put-item : tie.Need-shared-slice-copy-out-put-item Inv-loo
 shared-slice-copy-out-put-item c = omega arith
 
 put-item-requires : tie.Need-put-item-requires Inv-loop μ-loop
-put-item-requires c κs = omega (arith, long (c .before .before .before))
+put-item-requires c κs = omega arith
 
 add-i : tie.Need-add-i Inv-loop μ-loop
 add-i c = omega arith
@@ -49,10 +49,11 @@ loop-again c =
     let at = item .before .before .before .before in (
       omega arith,
       omega (arith, item .put-item .ensures .1),
-      put-is _ _ _ _ _ (put-then _ _ _ _ _ (at .loop .inv .2) _ _ _ (item .put-item .ensures .0)) _
+      pens-as
           (lines-more (at .before .before .args .cells .now) (at .loop .i) _
           (toZ-ofZ (record { sfits = item .before .put-item-arg2 .given }))
-          (omega arith)),
+          (omega arith))
+          (pens-more (at .loop .inv .2) (item .put-item .ensures .0)),
     )
 
 same-length : tie.Need-same-length Inv-loop μ-loop
@@ -63,8 +64,7 @@ returns c =
     let at = c .before in
     let start = at .before .before in
     let all-put : at .loop .i ≡ start .args .n = omega arith in (
-      put-is _ _ _ _ _ (at .loop .inv .2) _
-          (ap (λ (k : ℕ). gather itemLine (take k (start .args .cells .now))) all-put),
+      pens-as (ap (λ (k : ℕ). gather itemLine (take k (start .args .cells .now))) all-put) (at .loop .inv .2),
       omega arith,
     )
 

@@ -2,7 +2,7 @@
 use mathlib.Core.Path.{refl, sym, ap}
 use native.Mathlib.Omega.{arith}
 use Rattle.lines.specs.Text.{truthLine}
-use Rattle.lines.proofs.Putting.{put-is}
+use Rattle.pen.proofs.Putting.{pens-as}
 use Rattle.lines.proofs.items.put_truth.Statement.{statement}
 use Rattle.lines.proofs.items.put_truth.Tie as tie
 
@@ -25,8 +25,8 @@ returns : tie.Need-returns
 unfolding truthLine
 returns c =
     let word = c .before .before in (
-      put-is _ _ _ _ _ (word .put-word .ensures) _ (sym (ap truthLine (word .before .before .before .if1 .taken))),
-      omega (arith, word .put-word .ensures .ended),
+      pens-as (sym (ap truthLine (word .before .before .before .if1 .taken))) (word .put-word .ensures),
+      omega (arith, word .put-word .ensures .ends),
     )
 
 same-length-2 : tie.Need-same-length-2
@@ -36,8 +36,8 @@ returns-2 : tie.Need-returns-2
 unfolding truthLine
 returns-2 c =
     let word = c .before .before in (
-      put-is _ _ _ _ _ (word .put-word2 .ensures) _ (sym (ap truthLine (word .before .before .before .if1 .left))),
-      omega (arith, word .put-word2 .ensures .ended),
+      pens-as (sym (ap truthLine (word .before .before .before .if1 .left))) (word .put-word2 .ensures),
+      omega (arith, word .put-word2 .ensures .ends),
     )
 
 pub put-truth-spec : {M : Type 1} → statement M

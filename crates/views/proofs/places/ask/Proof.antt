@@ -3,7 +3,8 @@
 use Prim.Native.Nat.{_-_}
 use mathlib.Core.Path.{_≡_}
 use native.Mathlib.Omega.{arith}
-use Rattle.lines.proofs.Putting.{put-then, put-is}
+use Rattle.pen.proofs.Putting.{pens-more, pens-as}
+use Rattle.lines.proofs.Putting.{put-penned}
 use Rattle.views.proofs.Placing.{asked-three, asked-more}
 use borrow.Author.Needs.{needs}
 use Rattle.views.proofs.places.ask.Statement.{statement}
@@ -30,7 +31,8 @@ returns c =
     let start = plan .before .before .before .before .before in
     let end = start .args .end in
     let whole : end - 0 ≡ end = omega arith in
-    put-is _ _ _ _ _ (plan .put-word .ensures) _ (asked-three _ end _ _ (end - 0) whole (c .if1 .taken))
+    put-penned _ _ _ _ _ (search needs)
+    (pens-as (asked-three _ end _ _ (end - 0) whole (c .if1 .taken)) (plan .put-word .ensures))
 
 cast-t15 : tie.Need-cast-t15
 cast-t15 c = search needs
@@ -55,8 +57,9 @@ returns-2 c =
     let start = plan .before .before .before .before .before in
     let end = start .args .end in
     let whole : end - 0 ≡ end = omega arith in
-    put-is _ _ _ _ _ (put-then _ _ _ _ _ (plan .put-word .ensures) _ _ _ (more .put-word2 .ensures)) _
-    (asked-more _ end _ _ (end - 0) whole (other .if1 .left) (start .pre .2))
+    put-penned _ _ _ _ _ (search needs)
+    (pens-as (asked-more _ end _ _ (end - 0) whole (other .if1 .left) (start .pre .2))
+    (pens-more (plan .put-word .ensures) (more .put-word2 .ensures)))
 
 pub ask-spec : {M : Type 1} → statement M
 ask-spec =

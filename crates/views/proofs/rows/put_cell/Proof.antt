@@ -3,7 +3,8 @@ use native.Mathlib.Omega.{arith}
 use mir.Syntax.{w32}
 use mir.Val.{SFits}
 use mir.Facts.{toZ-ofZ}
-use Rattle.lines.proofs.Putting.{put-none, put-is}
+use Rattle.pen.proofs.Putting.{pens-none, pens-as}
+use Rattle.pen.proofs.Digits.{signed-end}
 use Rattle.views.proofs.Lining.{cell-stray, cell-integer, cell-truth, cell-node}
 use borrow.Author.Needs.{needs}
 use Rattle.views.proofs.rows.put_cell.Statement.{statement}
@@ -21,9 +22,10 @@ enum-told c = search needs
 returns : tie.Need-returns
 returns c =
     let item = c .before .before in (
-      put-is _ _ _ _ _ (put-none _ _ (omega arith)) _
+      pens-as
           (cell-stray _ _ _ (toZ-ofZ (item .before .before .fits .cell)) (item .item-of .ensures)
-          (c .enum-told .given .1)),
+          (c .enum-told .given .1))
+          (pens-none _ _),
       omega arith,
     )
 
@@ -58,11 +60,12 @@ returns-2 c =
     let case = line .before .before in
     let held = case .before .before .before .before in
     let item = held .before .before in (
-      put-is _ _ _ _ _ (line .put-signed .ensures .0) _
+      pens-as
           (cell-integer _ _ _ (toZ-ofZ (item .before .before .fits .cell)) (item .item-of .ensures) _
           (held .held .given .1) _ _
-          (toZ-ofZ (narrow case)) (case .before .item .given .1)),
-      omega (arith, line .put-signed .ensures .1),
+          (toZ-ofZ (narrow case)) (case .before .item .given .1))
+          (line .put-signed .ensures),
+      omega (arith, signed-end _ (line .put-signed .ensures)),
     )
 
 same-length-2 : tie.Need-same-length-2
@@ -74,10 +77,11 @@ returns-3 c =
     let case = line .before .before in
     let held = case .before .before .before .before in
     let item = held .before .before in (
-      put-is _ _ _ _ _ (line .put-truth .ensures .0) _
+      pens-as
           (cell-truth _ _ _ (toZ-ofZ (item .before .before .fits .cell)) (item .item-of .ensures) _
           (held .held .given .1) _
-          (case .before .item2 .given .1)),
+          (case .before .item2 .given .1))
+          (line .put-truth .ensures .0),
       line .put-truth .ensures .1,
     )
 
@@ -90,10 +94,11 @@ returns-4 c =
     let case = line .before .before in
     let held = case .before .before .before .before in
     let item = held .before .before in (
-      put-is _ _ _ _ _ (line .put-node .ensures .0) _
+      pens-as
           (cell-node _ _ _ (toZ-ofZ (item .before .before .fits .cell)) (item .item-of .ensures) _
           (held .held .given .1) _
-          (case .before .item3 .given .1)),
+          (case .before .item3 .given .1))
+          (line .put-node .ensures .0),
       line .put-node .ensures .1,
     )
 

@@ -3,7 +3,7 @@ use Prim.Native.Nat.{_-_}
 use mathlib.Core.Path.{_≡_}
 use native.Mathlib.Omega.{arith}
 use mir.Facts.{toZ-ofZ}
-use Rattle.lines.proofs.Putting.{put-is}
+use Rattle.pen.proofs.Putting.{pens-as}
 use Rattle.views.proofs.Lining.{column-is, taken-short}
 use borrow.Author.Needs.{needs}
 use Rattle.views.proofs.rows.put_column.Statement.{statement}
@@ -37,8 +37,10 @@ returns c =
     let start = cell .before .before .before in
     let n = cell .put-cell .result in
     let whole : n - 0 ≡ n = omega arith in (
-      put-is _ _ _ _ _ (right .put-right .ensures .0) _
-          (column-is _ _ (n - 0) n _ _ (cell .put-cell .ensures .0) (toZ-ofZ (start .fits .cell)) whole),
+      pens-as
+          (column-is _ _ (n - 0) n _ _ (cell .put-cell .ensures .1) (cell .put-cell .ensures .0)
+          (toZ-ofZ (start .fits .cell)) whole)
+          (right .put-right .ensures .0),
       omega (
         arith,
         right .put-right .ensures .1,

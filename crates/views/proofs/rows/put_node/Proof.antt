@@ -1,6 +1,7 @@
 -- `rows::put_node` meets its contract: the word, then the rank.
 use native.Mathlib.Omega.{arith}
-use Rattle.lines.proofs.Putting.{put-then}
+use Rattle.pen.proofs.Putting.{pens-more}
+use Rattle.pen.proofs.Digits.{decimal-end}
 use borrow.Author.Needs.{needs}
 use Rattle.views.proofs.rows.put_node.Statement.{statement}
 use Rattle.views.proofs.rows.put_node.Tie as tie
@@ -21,8 +22,8 @@ returns : tie.Need-returns
 returns c =
     let number = c .before .before in
     let word = number .before .before .before .before in (
-      put-then _ _ _ _ _ (word .put-word .ensures) _ _ _ (number .put-number .ensures .0),
-      omega (arith, word .put-word .ensures .ended, number .put-number .ensures .1),
+      pens-more (word .put-word .ensures) (number .put-number .ensures),
+      omega (arith, word .put-word .ensures .ends, decimal-end _ (number .put-number .ensures)),
     )
 
 pub put-node-spec : {M : Type 1} → statement M

@@ -3,7 +3,7 @@ use Prim.Native.Nat.{_-_}
 use mathlib.Core.Path.{refl}
 use lib.ListN.{length, drop, replicate}
 use native.Mathlib.Omega.{arith}
-use Rattle.lines.proofs.Putting.{put-then, put-is}
+use Rattle.pen.proofs.Putting.{pens-more, pens-as}
 use Rattle.views.proofs.Lining.{right-long, right-short, taken-short}
 use borrow.Author.Needs.{needs}
 use Rattle.views.proofs.rows.put_right.Statement.{statement}
@@ -18,8 +18,8 @@ same-length c = search needs
 returns : tie.Need-returns
 returns c =
     let word = c .before .before in (
-      put-is _ _ _ _ _ (word .put-word .ensures) _ (right-long _ (word .before .before .if1 .taken)),
-      omega (arith, word .put-word .ensures .ended),
+      pens-as (right-long _ (word .before .before .if1 .taken)) (word .put-word .ensures),
+      omega (arith, word .put-word .ensures .ends),
     )
 
 sub-put-word : tie.Need-sub-put-word
@@ -46,12 +46,11 @@ returns-2 c =
     let blank = word .before .before .before .before in
     let start = blank .before .before .before .before .before .before .before in
     let n = length (start .args .word .now) in (
-      put-is _ _ _ _ _ (put-then _ _ _ _ _ (blank .put-word2 .ensures) _ _ _ (word .put-word3 .ensures)) _
-          (right-short _ _ _ refl refl),
+      pens-as (right-short _ _ _ refl refl) (pens-more (blank .put-word2 .ensures) (word .put-word3 .ensures)),
       omega (
         arith,
-        word .put-word3 .ensures .ended,
-        blank .put-word2 .ensures .ended,
+        word .put-word3 .ensures .ends,
+        blank .put-word2 .ensures .ends,
         taken-short (12 - n) (drop n (replicate 12 32)),
       ),
     )

@@ -1,7 +1,7 @@
 -- `rows::put_truth` meets its contract, by the boolean.
 use mathlib.Core.Path.{sym, ap}
 use native.Mathlib.Omega.{arith}
-use Rattle.lines.proofs.Putting.{put-is}
+use Rattle.pen.proofs.Putting.{pens-as}
 use Rattle.views.specs.Rows.{truthWord}
 use borrow.Author.Needs.{needs}
 use Rattle.views.proofs.rows.put_truth.Statement.{statement}
@@ -25,8 +25,8 @@ same-length c = search needs
 returns : tie.Need-returns
 returns c =
     let word = c .before .before in (
-      put-is _ _ _ _ _ (word .put-word .ensures) _ (sym (ap truthWord (word .before .before .before .if1 .taken))),
-      omega (arith, word .put-word .ensures .ended),
+      pens-as (sym (ap truthWord (word .before .before .before .if1 .taken))) (word .put-word .ensures),
+      omega (arith, word .put-word .ensures .ends),
     )
 
 same-length-2 : tie.Need-same-length-2
@@ -35,8 +35,8 @@ same-length-2 c = search needs
 returns-2 : tie.Need-returns-2
 returns-2 c =
     let word = c .before .before in (
-      put-is _ _ _ _ _ (word .put-word2 .ensures) _ (sym (ap truthWord (word .before .before .before .if1 .left))),
-      omega (arith, word .put-word2 .ensures .ended),
+      pens-as (sym (ap truthWord (word .before .before .before .if1 .left))) (word .put-word2 .ensures),
+      omega (arith, word .put-word2 .ensures .ends),
     )
 
 pub put-truth-spec : {M : Type 1} → statement M

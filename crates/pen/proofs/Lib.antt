@@ -1,0 +1,4 @@
+pub mod Penned
+pub mod Putting
+pub mod Digits
+pub mod Magnitudes

@@ -1,0 +1,2 @@
+pub mod Penned
+pub mod Decimal
