@@ -38,7 +38,7 @@ use Rattle.adding.specs.declared.Operator.the-variants.{Number}
 use Rattle.adding.specs.declared.Operator.the-variants.{Apply, Value, Counts, Truths, Once, Step, Root}
 use Rattle.adding.specs.declared.Pen.{Pen}
 use Rattle.adding.specs.declared.Output.{Output}
-use Rattle.adding.specs.Ruled.{operatorOf, Room, Wrote, Ruled}
+use Rattle.adding.specs.Ruled.{operatorOf, PenRoom, Wrote, Ruled}
 
 written-one : (o : Op) → written (o ∷ []) ≡ operatorBytes o
 unfolding written gather
@@ -119,7 +119,7 @@ module _ {x y : List ℕ} {p q : Pen} {os : List Op} (f : Wrote os x p y q) wher
         short = omega arith;
       }
 
-  pub wrote-room : (j k : ℕ) → Room p k → length os + j ≤ k → Room q j
+  pub wrote-room : (j k : ℕ) → PenRoom p k → length os + j ≤ k → PenRoom q j
   wrote-room j k h l = record { few = omega arith; short = omega arith }
 
   pub wrote-length : length y ≡ length x

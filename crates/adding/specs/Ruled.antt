@@ -1,6 +1,6 @@
 -- What operators that are added leave in the lent bytes (document 01, 'Translation').
 --     operatorOf o           an operator as the definitions have it
---     Room p k               k more operators can be counted: of 5,000 operators, each at most 12 bytes long
+--     PenRoom p k            k more operators can be counted: of 5,000 operators, each at most 12 bytes long
 --     Wrote os x p y r       the operators os are written over the bytes x where p stands; y is left, writing stands at
 --                            r
 --     Ruled m next x p y r   the same for a rule's operators; r names its result's table, and next as the offset after
@@ -37,7 +37,7 @@ operatorOf (Once t c) = RK t c
 operatorOf (Step t axis test) = RX t axis test
 operatorOf (Root t k) = RO t k
 
-pub record Room (p : Pen) (k : ℕ) : Type 0 where
+pub record PenRoom (p : Pen) (k : ℕ) : Type 0 where
   pub few : p .operators + k ≤ 5000
   pub short : p .at ≤ 12 * p .operators
 

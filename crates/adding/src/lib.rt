@@ -9,7 +9,7 @@ ghost use mathlib.Core.List.{[], _∷_};
 ghost use Prim.Native.Nat.{_+_, _^_, _<_};
 ghost use Rattle.meaning.specs.Written.{operatorBytes};
 ghost use Rattle.pen.specs.Penned.{Pens};
-ghost use Rattle.adding.specs.Ruled.{operatorOf, Room, Wrote};
+ghost use Rattle.adding.specs.Ruled.{operatorOf, PenRoom, Wrote};
 
 // Where writing stands: the number of the next operator, and the position of its first byte.
 pub struct Pen {
@@ -70,7 +70,7 @@ fn write(plan: &mut [u8], at: usize, operator: Operator) -> usize
 
 // Adds one operator to the plan.
 pub fn add(plan: &mut [u8], pen: Pen, operator: Operator) -> Pen
-    requires { ⌜ Room pen 1 ⌝ }
+    requires { ⌜ PenRoom pen 1 ⌝ }
     ensures { λ r. ⌜ Wrote (operatorOf operator ∷ []) (now (plan .entry)) pen (now (plan .exit)) r ⌝ }
 {
     let at = pen.at;

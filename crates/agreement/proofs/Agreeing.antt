@@ -21,7 +21,7 @@ use Rattle.laws.proofs.Groups.{within-gather}
 use Rattle.laws.specs.Attempt.{Attempt, fails, gives, attempt, each}
 use Rattle.agreement.specs.Typed.{Triple, Loop, iterOf}
 use Rattle.agreement.specs.Families.{Family, Mask, placed, Represents, Loops, Outside, Agree, agrees, failing}
-use Rattle.agreement.proofs.Attempts.{got, Outcome, allGive, oneFails, outcome}
+use Rattle.agreement.proofs.Attempts.{got, EachOutcome, allGive, oneFails, outcome}
 
 pub agree-gives : {m : Mask} (t : List Triple) (s : Family) → Outside m s → Represents t s
     → Agree m (λ i. gives (s i)) (gives t)
@@ -61,21 +61,21 @@ outside-in m s out i x h = by-cases (m i) (λ k. k) (λ k. in-none x (s i) (out 
 
 module _ {A : Type 0} (it : A → ℕ) (g : A → Attempt (List Triple))
     (own : (r : A) → All (λ x. it r ≡ x .iter) (got (g r))) where
-  abbrev pub Given : List A → Type 0
-  Given t = All (λ r. g r ≡ gives (got (g r))) t
+  abbrev pub AllGiven : List A → Type 0
+  AllGiven t = All (λ r. g r ≡ gives (got (g r))) t
 
   pub agree-each : (m : Mask) (f : ℕ → Attempt (List ℤ)) (s : Family) (t : List A) → Outside m s
-      → ((i : ℕ) → Given (within it i t) → m i ≡ true → f i ≡ gives (s i))
-      → ((i : ℕ) → Given (within it i t) → gather (λ r. got (g r)) (within it i t) ≡ placed i 0 (s i))
+      → ((i : ℕ) → AllGiven (within it i t) → m i ≡ true → f i ≡ gives (s i))
+      → ((i : ℕ) → AllGiven (within it i t) → gather (λ r. got (g r)) (within it i t) ≡ placed i 0 (s i))
       → ((i : ℕ) (r : A) → In r (within it i t) → g r ≡ fails → (m i ≡ true) × (f i ≡ fails))
       → Agree m f (each g t)
   unfolding within
   agree-each m f s t out means rows bad = go (outcome g t)
     where
-      here : Given t → (i : ℕ) → Given (within it i t)
+      here : AllGiven t → (i : ℕ) → AllGiven (within it i t)
       here h i = all-kept (λ r. eqb i (it r)) (λ r. g r ≡ gives (got (g r))) t h
 
-      go : Outcome g t → Agree m f (each g t)
+      go : EachOutcome g t → Agree m f (each g t)
       go (allGive h e) =
           agrees (gather (λ r. got (g r)) t) s e (λ i k. means i (here h i) k) out
           (λ i. within-gather it iterOf (λ r. got (g r)) own i t ∙ rows i (here h i))

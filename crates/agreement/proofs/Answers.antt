@@ -37,7 +37,7 @@ use Rattle.laws.proofs.Outcomes.{reads-same, found-reads, found-unless, found-r
 use Rattle.theorems.proofs.Counts.{counts}
 use Rattle.theorems.proofs.Counted.{evaluate-done, evaluate-failed, running-done, running-failed, running-fits}
 use Rattle.agreement.specs.Passing.{Passed, PlanPassed, means, evaluation, makes, theRun, Refused, Cleared}
-use Rattle.agreement.specs.Passing.{Stood}
+use Rattle.agreement.specs.Passing.{StoodTables}
 use Rattle.agreement.proofs.RowWidths.{read-sound, flat-wide, flat-last}
 use Rattle.theorems.specs.PlanRead.{widthsOf}
 use Rattle.agreement.specs.RowWidths.{RowsOf, Widths, LastThree, TablesLaid}
@@ -78,7 +78,7 @@ last-three (p ∷ ps) ts l h = subst (λ (w : ℕ). RowsOf w (lastTable ts)) l (
 
 pub laid-stood : (bytes : List ℕ) (ps : List Placed) (w : World) (lent : ℕ) (f : Filled) → planRead bytes ≡ reads ps
     → running w (room lent) ps [] 0 ≡ done f
-    → Stood (f .tables) lent (ran lent f .left) (f .filled - length (lastTable (f .tables)) * 3)
+    → StoodTables (f .tables) lent (ran lent f .left) (f .filled - length (lastTable (f .tables)) * 3)
     (length (lastTable (f .tables))) (f .filled)
 unfolding ran padded
 laid-stood bytes ps w lent f e d =
@@ -192,21 +192,21 @@ answer-of e = ap (λ (o : Outcome ℤ). o .answer) e
 -- by the numbers of the answer, and in the cells of the call
 stood-as : {left : List ℤ} (lent : ℕ) (f : Filled) (start rows filled : ℕ)
     → ran lent f .answer ≡ gives (start ∷ rows ∷ filled ∷ []) → ran lent f .left ≡ left
-    → Stood (f .tables) lent (ran lent f .left) (f .filled - length (lastTable (f .tables)) * 3)
+    → StoodTables (f .tables) lent (ran lent f .left) (f .filled - length (lastTable (f .tables)) * 3)
     (length (lastTable (f .tables))) (f .filled)
-    → Stood (f .tables) lent left start rows filled
+    → StoodTables (f .tables) lent left start rows filled
 unfolding ran
 stood-as lent f start rows filled a e s =
     let r : length (lastTable (f .tables)) ≡ rows = cc in
     let n : f .filled ≡ filled = cc in
     let p : f .filled - length (lastTable (f .tables)) * 3 ≡ start = cc in
-    subst (λ (xs : List ℤ). Stood (f .tables) lent xs start rows filled) e
-    (subst₃ (λ (x y z : ℕ). Stood (f .tables) lent (ran lent f .left) x y z) p r n s)
+    subst (λ (xs : List ℤ). StoodTables (f .tables) lent xs start rows filled) e
+    (subst₃ (λ (x y z : ℕ). StoodTables (f .tables) lent (ran lent f .left) x y z) p r n s)
 
 module _ (bytes doc : List ℕ) (i : PlanPassed bytes doc) (lent : ℕ) where
   pub run-stood : (start rows filled : ℕ) → runCall bytes doc lent .answer ≡ gives (start ∷ rows ∷ filled ∷ [])
       → (ts : List Table) × (makes i ≡ Attempt.gives ts)
-      × Stood ts lent (runCall bytes doc lent .left) start rows filled
+      × StoodTables ts lent (runCall bytes doc lent .left) start rows filled
   run-stood start rows filled e =
       let (f, d, a) =
       ended-gives (ran lent) (ran-plain lent) lent (theRun i lent) _ (sym (answer-of (run-at i lent)) ∙ e)

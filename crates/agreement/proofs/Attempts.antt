@@ -1,6 +1,6 @@
 -- Laws of `each` and `extended`: every member gives, or one fails.
 --     got a                    what an attempt gives, nothing where it fails
---     Outcome f xs             all members give and `each` gathers what they give, or one fails and so does `each`
+--     EachOutcome f xs         all members give and `each` gathers what they give, or one fails and so does `each`
 --     outcome f xs             one of the two
 --     each-fails, each-gives, each-known     `each` where a member fails; where all give; where it is known what
 --     extended-then            a row's function, then a function of each row so extended, is one `each`
@@ -17,23 +17,23 @@ unfoldable pub got : {B : Type 0} → Attempt (List B) → List B
 got fails = []
 got (gives ys) = ys
 
-pub data Outcome {A B : Type 0} (f : A → Attempt (List B)) (xs : List A) : Type 0 where
-  allGive : All (λ x. f x ≡ gives (got (f x))) xs → each f xs ≡ gives (gather (λ x. got (f x)) xs) → Outcome f xs
-  oneFails : (x : A) → In x xs → f x ≡ fails → each f xs ≡ fails → Outcome f xs
+pub data EachOutcome {A B : Type 0} (f : A → Attempt (List B)) (xs : List A) : Type 0 where
+  allGive : All (λ x. f x ≡ gives (got (f x))) xs → each f xs ≡ gives (gather (λ x. got (f x)) xs) → EachOutcome f xs
+  oneFails : (x : A) → In x xs → f x ≡ fails → each f xs ≡ fails → EachOutcome f xs
 
 module _ {A B : Type 0} (f : A → Attempt (List B)) where
-  pub outcome : (xs : List A) → Outcome f xs
+  pub outcome : (xs : List A) → EachOutcome f xs
   unfolding each gather attempt got
   outcome [] = allGive tt refl
   outcome (x ∷ xs) = here (f x) refl (outcome xs)
     where
-      there : (ys : List B) → f x ≡ gives ys → Outcome f xs → Outcome f (x ∷ xs)
+      there : (ys : List B) → f x ≡ gives ys → EachOutcome f xs → EachOutcome f (x ∷ xs)
       there ys e (allGive h k) =
           allGive (e ∙ ap gives (sym (ap got e)), h)
           (rw (e, k) refl)
       there ys e (oneFails y i h k) = oneFails y (inr i) h (rw (e, k) refl)
 
-      here : (a : Attempt (List B)) → f x ≡ a → Outcome f xs → Outcome f (x ∷ xs)
+      here : (a : Attempt (List B)) → f x ≡ a → EachOutcome f xs → EachOutcome f (x ∷ xs)
       here fails e o = oneFails x (inl refl) e (rw e refl)
       here (gives ys) e o = there ys e o
 
@@ -55,7 +55,7 @@ module _ {A B : Type 0} (f : A → Attempt (List B)) where
   pub each-fails : (xs : List A) (x : A) → In x xs → f x ≡ fails → each f xs ≡ fails
   each-fails xs x i e = go (outcome f xs)
     where
-      go : Outcome f xs → each f xs ≡ fails
+      go : EachOutcome f xs → each f xs ≡ fails
       go (allGive h k) = fails-gives e (all-in (λ y. f y ≡ gives (got (f y))) xs x h i)
       go (oneFails y j h k) = k
 
@@ -63,7 +63,7 @@ module _ {A B : Type 0} (f : A → Attempt (List B)) where
       → each f xs ≡ gives (gather (λ x. got (f x)) xs)
   each-gives xs h = go (outcome f xs)
     where
-      go : Outcome f xs → each f xs ≡ gives (gather (λ x. got (f x)) xs)
+      go : EachOutcome f xs → each f xs ≡ gives (gather (λ x. got (f x)) xs)
       go (allGive h k) = k
       go (oneFails y j e k) = fails-gives e (all-in (λ y. f y ≡ gives (got (f y))) xs y h j)
 

@@ -29,7 +29,7 @@ use Rattle.theorems.specs.Nodes.{Lawful}
 use Rattle.meaning.specs.Meaning.{Env}
 use Rattle.agreement.specs.Typed.{Triple, Loop, Vars, Sem, iterOf, placeOf, itemOf, byNumber, itemsInOrder}
 use Rattle.agreement.specs.Typed.{truthsOf, thenLoop, keptIn, branches, semI}
-use Rattle.agreement.specs.Families.{Family, Mask, placed, Represents, Loops, Outside, Holds, Agree, agrees}
+use Rattle.agreement.specs.Families.{Family, Mask, placed, Represents, Loops, Outside, HoldsVars, Agree, agrees}
 use Rattle.agreement.specs.Families.{failing, Agrees}
 use Rattle.agreement.proofs.Attempts.{got, fails-gives, alone, alone-failed, all-alone}
 use Rattle.agreement.proofs.Agreeing.{agree-to, outside-filled}
@@ -63,9 +63,9 @@ module _ (m d : Mask) (inside : (i : ℕ) → d i ≡ true → m i ≡ true) whe
       (λ e. by-cases (m i) (λ k. rw (e, k)) (λ k. rw (e, k)))
       (λ e. by-cases (m i) (λ k. rw (e, k)) (λ k. rw (e, k)))
 
-  holds-kept : (ρ : ℕ → Env) (vars : Vars) → Holds m ρ vars → (part : Mask) → ((i : ℕ) → part i ≡ true → m i ≡ true)
+  holds-kept : (ρ : ℕ → Env) (vars : Vars) → HoldsVars m ρ vars → (part : Mask) → ((i : ℕ) → part i ≡ true → m i ≡ true)
       → (l : Loop) → Loops l part
-      → Holds part ρ (λ u. keptIn l (vars u))
+      → HoldsVars part ρ (λ u. keptIn l (vars u))
   unfolding placed
   holds-kept ρ vars holds part sub l loops u i =
       kept-at l part loops (vars u) i
@@ -113,7 +113,7 @@ module _ (m d : Mask) (inside : (i : ℕ) → d i ≡ true → m i ≡ true) whe
         (λ c. rw (c, out i c)))
 
     pub branch : (ρ : ℕ → Env) (a b : Sem) → Agrees ρ f a → Agrees ρ g b → (l n : Loop) (vars : Vars) → Loops l m
-        → Loops n d → Holds m ρ vars
+        → Loops n d → HoldsVars m ρ vars
         → Agree m (λ i. cond (d i) (f i) (g i)) (branches a b l vars n)
     unfolding branches
     branch ρ a b agree-a agree-b l n vars loops then-loops holds =
@@ -202,7 +202,7 @@ module _ (w : World) (lawful : Lawful w) (m : Mask) (c : List Triple) (s : Famil
       ∙ flagged i (means i)
 
   pub rule-I : (ρ : ℕ → Env) (f g : ℕ → Attempt (List ℤ)) (a b : Sem) → Agrees ρ f a → Agrees ρ g b
-      → (l : Loop) (vars : Vars) → Loops l m → Holds m ρ vars
+      → (l : Loop) (vars : Vars) → Loops l m → HoldsVars m ρ vars
       → Agree m (λ i. attempt (w .truth (s i)) (λ t. cond t (f i) (g i))) (semI w a b l vars c)
   unfolding semI attempt filled truthRow
   rule-I ρ f g a b agree-a agree-b l vars loops holds = go (worked s number truthRow own c rep)
@@ -238,13 +238,13 @@ module _ (w : World) (lawful : Lawful w) (m : Mask) (c : List Triple) (s : Famil
 pub record Parted (m : Mask) (ρ : ℕ → Env) (l n : Loop) (vars : Vars) : Type 0 where
   pub chosen : Mask
   pub chosen-loop : Loops n chosen
-  pub chosen-holds : Holds chosen ρ (λ u. keptIn n (vars u))
+  pub chosen-holds : HoldsVars chosen ρ (λ u. keptIn n (vars u))
   pub rest : Mask
   pub rest-loop : Loops (without l n) rest
-  pub rest-holds : Holds rest ρ (λ u. keptIn (without l n) (vars u))
+  pub rest-holds : HoldsVars rest ρ (λ u. keptIn (without l n) (vars u))
 
 pub parted : (w : World) → Lawful w → {m : Mask} {c : List Triple} (h : Shown m c) (ρ : ℕ → Env) (l : Loop)
-    (vars : Vars) → Loops l m → Holds m ρ vars → (ds : List (ℕ × Bool)) → truthsOf w c ≡ gives ds
+    (vars : Vars) → Loops l m → HoldsVars m ρ vars → (ds : List (ℕ × Bool)) → truthsOf w c ≡ gives ds
     → Parted m ρ l (thenLoop ds) vars
 parted w lawful {m} {c} h ρ l vars loops holds ds d =
     let chosen = decision w lawful m c (h .family) (h .outside) (h .rows) in

@@ -24,12 +24,12 @@ use Rattle.meaning.specs.Calls.{translateCall, lastTable, runCall, evaluateCall
 use Rattle.laws.proofs.Outcomes.{fails-gives, gives-same, reads-same}
 use Rattle.theorems.proofs.Counted.{evaluate-done, evaluate-failed, running-done, running-failed}
 use Rattle.theorems.proofs.PlanRead.{query-plan-back, translated}
-use Rattle.theorems.specs.PlanRead.{Translated}
+use Rattle.theorems.specs.PlanRead.{TranslatedPlan}
 use Rattle.agreement.specs.Machine as Machine
 use Rattle.agreement.specs.Machine.{SameRun}
-use Rattle.agreement.specs.Passing.{Passed, PlanPassed, means, evaluation, makes, theRun, Refused, Stood}
+use Rattle.agreement.specs.Passing.{Passed, PlanPassed, means, evaluation, makes, theRun, Refused, StoodTables}
 use Rattle.cells.specs.Bytes.{Bytes}
-use Rattle.agreement.specs.Passing.{itemsAt, Alike, bothFail, bothGive, Held}
+use Rattle.agreement.specs.Passing.{itemsAt, Alike, bothFail, bothGive, HeldOutcome}
 use Rattle.agreement.proofs.MachineAgreement.{same-run-read}
 use Rattle.agreement.proofs.EngineCalls.{evaluated-plain, ran-plain}
 use Rattle.agreement.specs.EngineCalls.{ended, evaluated, ran, Settled, failing, finished}
@@ -38,16 +38,16 @@ use Rattle.agreement.proofs.Answers.{evaluate-at, evaluate-is, run-at, 
 use Rattle.agreement.proofs.Answers.{laid-stood, answer-of}
 
 -- the plan's bytes, and a catalogue that passes its check
-record Back (q : Query) (bytes doc : List ℕ) (c : Catalogue) : Type 0 where
+record ReadBack (q : Query) (bytes doc : List ℕ) (c : Catalogue) : Type 0 where
   passed : PlanPassed bytes doc
   operators : map (λ (p : Placed). p .op) (passed .placed) ≡ plan q
   catalogue : passed .catalogue ≡ c
 
 plan-passed : (query doc : List ℕ) → Bytes query → (i : Passed query doc) (lent n m : ℕ)
     → translateCall query lent .answer ≡ gives (n ∷ m ∷ [])
-    → Back (i .read .tree) (take m (translateCall query lent .left)) doc (i .catalogue)
+    → ReadBack (i .read .tree) (take m (translateCall query lent .left)) doc (i .catalogue)
 plan-passed query doc bytes i lent n m e =
-    let t : Translated query lent n m = translated query lent n m e in
+    let t : TranslatedPlan query lent n m = translated query lent n m e in
     let same : t .read ≡ i .read = reads-same (sym (t .accepted) ∙ i .query-reads) in
     let (ps, back) =
     query-plan-back query (t .read) bytes (t .accepted) (omega (arith, t .operators, t .within)) in
@@ -78,7 +78,7 @@ record EvaluationGave (xs : List ℤ) (o : Outcome ℤ) : Type 0 where
   items : take (length xs) (o .left) ≡ xs
 
 ran-gave : (lent : ℕ) (f : Filled) (xs : List ℤ) → column (lastTable (f .tables)) 2 ≡ xs
-    → Stood (f .tables) lent (ran lent f .left) (f .filled - length (lastTable (f .tables)) * 3)
+    → StoodTables (f .tables) lent (ran lent f .left) (f .filled - length (lastTable (f .tables)) * 3)
     (length (lastTable (f .tables))) (f .filled)
     → RunGave xs (ran lent f)
 unfolding ran column itemsAt
@@ -183,7 +183,7 @@ pub engines-agree :
 engines-agree query doc bytes i lent a b n m e not-run not-evaluation =
     go (same-run-read (i .catalogue) query (i .read) (i .query-reads))
   where
-    back : Back (i .read .tree) (take m (translateCall query lent .left)) doc (i .catalogue)
+    back : ReadBack (i .read .tree) (take m (translateCall query lent .left)) doc (i .catalogue)
     back = plan-passed query doc bytes i lent n m e
 
     ran-plan : makes (back .passed) ≡ run (worldOf (i .catalogue)) (plan (i .read .tree)) []
@@ -201,7 +201,8 @@ engines-agree query doc bytes i lent a b n m e not-run not-evaluation =
 
 -- The answers and cells in hand
 
-held-is : {A : Type 0} (o : Outcome A) (a : Answer) (xs : List A) → Held o a xs → record { answer = a; left = xs } ≡ o
+held-is : {A : Type 0} (o : Outcome A) (a : Answer) (xs : List A) → HeldOutcome o a xs
+    → record { answer = a; left = xs } ≡ o
 held-is o a xs h = λ j. record { answer = h .answers j; left = h .leaves j }
 
 catalogue-passed : (rows : ℕ) (m : Reading Catalogue) → catalogueAnswer m ≡ gives (rows ∷ [])
@@ -213,16 +214,16 @@ catalogue-passed rows (reads c) e = (c, refl)
 pub agree-in-hand :
     (query doc bytes : List ℕ) (cells items : List ℤ) (t k r e : Answer) (lent forRun forEvaluation n m rows : ℕ)
     → Bytes query
-    → Held (translateCall query lent) t bytes → t ≡ gives (n ∷ m ∷ [])
+    → HeldOutcome (translateCall query lent) t bytes → t ≡ gives (n ∷ m ∷ [])
     → k ≡ catalogueCall doc → k ≡ gives (rows ∷ [])
-    → Held (runCall (take m bytes) doc forRun) r cells → ¬ (Refused 6 r)
-    → Held (evaluateCall query doc forEvaluation) e items → ¬ (Refused 6 e)
+    → HeldOutcome (runCall (take m bytes) doc forRun) r cells → ¬ (Refused 6 r)
+    → HeldOutcome (evaluateCall query doc forEvaluation) e items → ¬ (Refused 6 e)
     → (i : Passed query doc)
     × Alike (means i) (record { answer = r; left = cells }) (record { answer = e; left = items })
 unfolding catalogueCall
 agree-in-hand query doc bytes cells items t k r e lent a b n m rows small ht ot hk ok hr not-run he not-evaluation =
     let told : translateCall query lent .answer ≡ gives (n ∷ m ∷ []) = sym (ht .answers) ∙ ot in
-    let passed : Translated query lent n m = translated query lent n m told in
+    let passed : TranslatedPlan query lent n m = translated query lent n m told in
     let (c, sound) = catalogue-passed rows (catalogueRead doc) (sym hk ∙ ok) in
     let i : Passed query doc =
     record { read = passed .read; query-reads = passed .accepted; catalogue = c; doc-reads = sound } in

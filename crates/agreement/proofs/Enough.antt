@@ -15,7 +15,7 @@ use Rattle.meaning.specs.Operators.{Table}
 use Rattle.meaning.specs.Calls.{gives, Outcome, room, lastTable, runCall, evaluateCall}
 use Rattle.theorems.proofs.Counted.{evaluate-done, evaluate-failed, running-done, running-failed}
 use Rattle.agreement.specs.Passing.{Passed, PlanPassed, means, stands, evaluation, makes, fills, theRun, Refused}
-use Rattle.agreement.specs.Passing.{Stood}
+use Rattle.agreement.specs.Passing.{StoodTables}
 use Rattle.agreement.proofs.Room.{standing-count, filling-filled}
 use Rattle.agreement.specs.EngineCalls.{evaluated, ran, Settled, failing, finished}
 use Rattle.agreement.proofs.Answers.{evaluate-is, run-is, laid-stood, answer-of}
@@ -27,17 +27,17 @@ module _ (bytes doc : List ℕ) (i : PlanPassed bytes doc) (lent : ℕ) (enough 
   run-not-six = run-six bytes doc i .enough lent enough
 
   -- tables us, and k cells filled, are answered and stand
-  abbrev Given : List Table → ℕ → Type 0
-  Given us k =
+  abbrev TablesGiven : List Table → ℕ → Type 0
+  TablesGiven us k =
       (runCall bytes doc lent .answer
       ≡ gives ((k - length (lastTable us) * 3) ∷ length (lastTable us) ∷ k ∷ []))
-      × Stood us lent (runCall bytes doc lent .left) (k - length (lastTable us) * 3) (length (lastTable us)) k
+      × StoodTables us lent (runCall bytes doc lent .left) (k - length (lastTable us) * 3) (length (lastTable us)) k
 
-  pub run-enough : (ts : List Table) → makes i ≡ Attempt.gives ts → Given ts (fills i)
+  pub run-enough : (ts : List Table) → makes i ≡ Attempt.gives ts → TablesGiven ts (fills i)
   unfolding ran
   run-enough ts e = go (run-settled i lent run-not-six)
     where
-      go : Settled (theRun i lent) → Given ts (fills i)
+      go : Settled (theRun i lent) → TablesGiven ts (fills i)
       go (failing p d) =
           absurd
           (fails-gives ts (sym (running-failed (worldOf (i .catalogue)) (room lent) (i .placed) [] 0 p d) ∙ e))
@@ -47,11 +47,11 @@ module _ (bytes doc : List ℕ) (i : PlanPassed bytes doc) (lent : ℕ) (enough 
           let filled : f .filled ≡ fills i =
           sym (filling-filled (worldOf (i .catalogue)) (room lent) (i .placed) f d) in
           let is : runCall bytes doc lent ≡ ran lent f = run-is i lent f d in
-          subst₂ Given same filled (
+          subst₂ TablesGiven same filled (
             answer-of is,
             subst
                 (λ (xs : List ℤ).
-                Stood (f .tables) lent xs (f .filled - length (lastTable (f .tables)) * 3)
+                StoodTables (f .tables) lent xs (f .filled - length (lastTable (f .tables)) * 3)
                 (length (lastTable (f .tables))) (f .filled))
                 (sym (ap (λ (o : Outcome ℤ). o .left) is))
                 (laid-stood bytes (i .placed) (worldOf (i .catalogue)) lent f (i .plan-reads) d),

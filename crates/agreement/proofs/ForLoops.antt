@@ -19,7 +19,7 @@ use Rattle.laws.specs.Attempt.{Attempt, gives, attempt, each}
 use Rattle.meaning.specs.Meaning.{Env, bind}
 use Rattle.agreement.specs.Typed.{Triple, Vars, Sem, itemOf, holding, allInOrder, itemsAlone}
 use Rattle.agreement.specs.Typed.{newLoop, mapOf, liftedBy, broughtBack, semF}
-use Rattle.agreement.specs.Families.{Family, Mask, placed, Represents, Outside, Holds, Agree, agrees, failing}
+use Rattle.agreement.specs.Families.{Family, Mask, placed, Represents, Outside, HoldsVars, Agree, agrees, failing}
 use Rattle.agreement.specs.Families.{Agrees}
 use Rattle.agreement.proofs.Attempts.{each-fails, each-known, each-map}
 use Rattle.agreement.proofs.Tables.{map-placed}
@@ -85,7 +85,7 @@ module _ (e : Env → Attempt (List ℤ)) (m : Mask) (a : List Triple) (s : Fami
       (ap (gather (λ p. s′ (p .1))) (filter-map (λ p. eqb i (p .0)) (λ r. (r .0 .iter, r .1)) (allInOrder a))
       ∙ gather-map (λ p. s′ (p .1)) (λ r. (r .0 .iter, r .1)) (within outer i (allInOrder a)))
 
-  pub rule-F : (body : Sem) → ((ρ′ : ℕ → Env) → Agrees ρ′ (λ i. e (ρ′ i)) body) → (vars : Vars) → Holds m ρ vars
+  pub rule-F : (body : Sem) → ((ρ′ : ℕ → Env) → Agrees ρ′ (λ i. e (ρ′ i)) body) → (vars : Vars) → HoldsVars m ρ vars
       → Agree m (λ i. each (λ x. e (bind v (x ∷ []) (ρ i))) (s i)) (semF v body a vars)
   unfolding semF attempt newEnv
   rule-F body agree vars holds =

@@ -1,5 +1,5 @@
 -- QO: a function of two sides, each of one item at most.
---     Short xs, Many xs        at most one item; two or more
+--     AtMostOneItem xs, Many xs   at most one item; two or more
 --     short                    where no iteration has two rows, each side is short
 --     pairVal r                the function of a pair of rows
 --     pairs i xs ys            the pairs that the join makes in iteration i
@@ -27,13 +27,13 @@ use Rattle.agreement.specs.Typed.{Triple, row, iterOf, checked, facing, 
 use Rattle.agreement.specs.Families.{Family, Mask, placed, Represents, Outside, Agree, failing}
 use Rattle.agreement.proofs.Attempts.{got, extended-then, each-map, alone, alone-gives}
 use Rattle.agreement.proofs.Attempts.{alone-fails, all-alone}
-use Rattle.agreement.proofs.Agreeing.{agree-each, Given, outside-member}
+use Rattle.agreement.proofs.Agreeing.{agree-each, AllGiven, outside-member}
 
 -- at most one item
-abbrev Short : List ℤ → Type 0
-Short [] = Unit {0}
-Short (x ∷ []) = Unit {0}
-Short (x ∷ y ∷ zs) = ⊥
+abbrev AtMostOneItem : List ℤ → Type 0
+AtMostOneItem [] = Unit {0}
+AtMostOneItem (x ∷ []) = Unit {0}
+AtMostOneItem (x ∷ y ∷ zs) = ⊥
 
 record Many (xs : List ℤ) : Type 0 where
   first : ℤ
@@ -48,11 +48,11 @@ many i (x ∷ []) r q rs e = no-cons (tails e)
 many i (x ∷ y ∷ zs) r q rs e = record { first = x; second = y; others = zs; here = refl }
 
 -- a table in which no iteration has two rows; or one in which an iteration has two items
-short : (a : List Triple) (s : Family) → Represents a s → unique (map iterOf a) ≡ true → (i : ℕ) → Short (s i)
+short : (a : List Triple) (s : Family) → Represents a s → unique (map iterOf a) ≡ true → (i : ℕ) → AtMostOneItem (s i)
 unfolding placed
 short a s rep u i = go (s i) (rep i)
   where
-    go : (xs : List ℤ) → within iterOf i a ≡ placed i 0 xs → Short xs
+    go : (xs : List ℤ) → within iterOf i a ≡ placed i 0 xs → AtMostOneItem xs
     go [] e = tt
     go (x ∷ []) e = tt
     go (x ∷ y ∷ zs) e = unique-true iterOf a u i (row i 1 x) (row i 2 y) (placed i 2 zs) e
@@ -85,7 +85,8 @@ module _ (w : World) (f : Function) where
   pairs i xs ys = gather (λ r. map (λ s. (r, s)) (placed i 0 ys)) (placed i 0 xs)
 
   module _ (i : ℕ) where
-    pairs-mean : (xs ys : List ℤ) → Short xs → Short ys → Given iterOfPair pairVal own (pairs i xs ys)
+    pairs-mean : (xs ys : List ℤ) → AtMostOneItem xs → AtMostOneItem ys
+        → AllGiven iterOfPair pairVal own (pairs i xs ys)
         → apply w f xs ys ≡ gives (got (apply w f xs ys))
     unfolding apply pairs gather placed pairVal got
     pairs-mean [] [] h k g = refl
@@ -101,7 +102,7 @@ module _ (w : World) (f : Function) where
     one-placed fails = refl
     one-placed (gives z) = refl
 
-    pairs-placed : (xs ys : List ℤ) → Short xs → Short ys
+    pairs-placed : (xs ys : List ℤ) → AtMostOneItem xs → AtMostOneItem ys
         → gather (λ r. got (pairVal r)) (pairs i xs ys) ≡ placed i 0 (got (apply w f xs ys))
     unfolding apply pairs gather placed pairVal got
     pairs-placed [] [] h k = refl
@@ -112,7 +113,7 @@ module _ (w : World) (f : Function) where
     pairs-placed (x ∷ []) (y ∷ z ∷ zs) h k = absurd k
     pairs-placed (x ∷ u ∷ xs) ys h k = absurd h
 
-    pairs-fail : (xs ys : List ℤ) → Short xs → Short ys → (r : Triple × Triple) → In r (pairs i xs ys)
+    pairs-fail : (xs ys : List ℤ) → AtMostOneItem xs → AtMostOneItem ys → (r : Triple × Triple) → In r (pairs i xs ys)
         → pairVal r ≡ fails
         → apply w f xs ys ≡ fails
     unfolding apply pairs gather placed pairVal
@@ -141,7 +142,7 @@ module _ (w : World) (f : Function) where
         (joined iterOf iterOf a b)
         (λ i e. rw (os i e, ou i e))
         (λ i h k. pairs-mean i (s i) (u i) (short a s ra ua i) (short b u rb ub i)
-        (subst (Given iterOfPair pairVal own) (pairs-at i) h))
+        (subst (AllGiven iterOfPair pairVal own) (pairs-at i) h))
         (λ i h. ap (gather (λ r. got (pairVal r))) (pairs-at i)
         ∙ pairs-placed i (s i) (u i) (short a s ra ua i) (short b u rb ub i))
         (λ i r k e.
@@ -158,11 +159,11 @@ module _ (w : World) (f : Function) where
     rule-many c t out rep e bad run =
         let two = unique-false iterOf c e in
         let found =
-        many (two .number) (t (two .number)) (two .first) (two .second) (two .others)
-        (sym (rep (two .number)) ∙ two .here) in
-        failing (two .number)
-        (outside-member m t out (two .number) (found .first) (found .second ∷ found .others) (found .here))
-        (bad (two .number) found) run
+        many (two .shared) (t (two .shared)) (two .first) (two .second) (two .others)
+        (sym (rep (two .shared)) ∙ two .here) in
+        failing (two .shared)
+        (outside-member m t out (two .shared) (found .first) (found .second ∷ found .others) (found .here))
+        (bad (two .shared) found) run
 
     tables-checked : unique (map iterOf a) ≡ true → unique (map iterOf b) ≡ true
         → semO w f a b ≡ each pairVal (joined iterOf iterOf a b)

@@ -17,7 +17,7 @@ use Rattle.laws.specs.Attempt.{Attempt, fails, gives, attempt, each}
 use Rattle.meaning.specs.Meaning.{Env}
 use Rattle.meaning.specs.World.{World}
 use Rattle.agreement.specs.Typed.{Triple, row, Loop, Vars, semL, semE, semR, firstPlaces, extended}
-use Rattle.agreement.specs.Families.{Mask, placed, Represents, Loops, Holds, Agree, agrees}
+use Rattle.agreement.specs.Families.{Mask, placed, Represents, Loops, HoldsVars, Agree, agrees}
 use Rattle.agreement.specs.Families.{failing}
 use Rattle.agreement.proofs.Agreeing.{agree-gives, agree-to, loop-member}
 
@@ -38,7 +38,7 @@ pub rule-E : (l : Loop) (m : Mask) → Agree m (λ i. gives []) (gives (semE l))
 unfolding semE within filter placed
 rule-E l m = agree-gives [] (λ i. []) (λ i e. refl) (λ i. refl)
 
-pub rule-V : (m : Mask) (ρ : ℕ → Env) (vars : Vars) → Holds m ρ vars → (v : ℕ)
+pub rule-V : (m : Mask) (ρ : ℕ → Env) (vars : Vars) → HoldsVars m ρ vars → (v : ℕ)
     → Agree m (λ i. gives (ρ i v)) (gives (vars v))
 rule-V m ρ vars holds v =
     agree-to (λ i. gives (ρ i v)) (λ i e. rw e)

@@ -19,8 +19,8 @@ use Rattle.meaning.specs.Operators.{Row, Table, make}
 use Rattle.meaning.specs.Run.{run}
 use Rattle.agreement.specs.Typed.{Triple}
 use Rattle.agreement.specs.Encoded.{encode, Has, HasRows}
-use Rattle.agreement.specs.Tieless.{Apart, Tieless}
-use Rattle.agreement.specs.Machine.{Ran, Simulates}
+use Rattle.agreement.specs.Tieless.{RowsApart, Tieless}
+use Rattle.agreement.specs.Machine.{MachineRan, Simulates}
 use Rattle.agreement.proofs.EncodedLists.{mapped-once}
 
 pub record Extends (ts us : List Table) : Type 0 where
@@ -98,11 +98,12 @@ module _ (w : World) where
   unfolding run attempt
   run-fails o os ts e = rw e
 
-  sim-gives : (os : List Op) (n : ℕ) (ts : List Table) (rows : List Triple) → Tieless w os ts → Ran w os n ts rows
+  sim-gives : (os : List Op) (n : ℕ) (ts : List Table) (rows : List Triple) → Tieless w os ts
+      → MachineRan w os n ts rows
       → Simulates w os n ts (gives rows)
   sim-gives os n ts rows h r =
       record {
-        gave = λ us e. subst (Ran w os n ts) (ap given e) r;
+        gave = λ us e. subst (MachineRan w os n ts) (ap given e) r;
         failed = λ e. absurd (subst isFailing (sym e) tt);
         apart = h;
       }
@@ -123,7 +124,7 @@ module _ (w : World) where
         apart = tieless-append os ps ts h (λ us d. subst (Tieless w ps) (gives-same (sym e ∙ d)) (s .apart));
       }
     where
-      further : (rows : List Triple) → Ran w ps n (ts ++ made) rows → Ran w (os ++ ps) n ts rows
+      further : (rows : List Triple) → MachineRan w ps n (ts ++ made) rows → MachineRan w (os ++ ps) n ts rows
       further rows r =
           record {
             made = made ++ r .made;
@@ -164,7 +165,7 @@ module _ (w : World) where
       (length-append ts (g .made) ∙ ap₂ _+_ e (g .long)) (g .has))
 
   module _ {A : Type 0} {f : A → Row} {o : Op} {ts : List Table} {os : List Op} {r n : ℕ} where
-    pub sim-op : {a : Attempt (List Triple)} {rows : List A} → make w o ts ≡ gives (map f rows) → Apart o ts
+    pub sim-op : {a : Attempt (List Triple)} {rows : List A} → make w o ts ≡ gives (map f rows) → RowsApart o ts
         → length ts ≡ n → Then ts (suc n) n f rows os r a → Simulates w (o ∷ os) r ts a
     sim-op {a} {rows} e d l h =
         behind (o ∷ []) os r ts (map f rows ∷ []) a (d, λ t q. tt) (run-one o ts (map f rows) e) refl
@@ -172,7 +173,7 @@ module _ (w : World) where
         (omega (arith, length-append ts (map f rows ∷ []))) (has-new ts n f rows l))
 
     pub sim-try : {k : List A → Attempt (List Triple)} (a : Attempt (List A))
-        → make w o ts ≡ attempt a (λ t. gives (map f t)) → Apart o ts → length ts ≡ n
+        → make w o ts ≡ attempt a (λ t. gives (map f t)) → RowsApart o ts → length ts ≡ n
         → ((rows : List A) → a ≡ gives rows → Then ts (suc n) n f rows os r (k rows))
         → Simulates w (o ∷ os) r ts (attempt a k)
     unfolding attempt

@@ -58,11 +58,11 @@ module _ (w : World) {B : Type 0} (g : B → Row) (j : B → ℕ) (lift : Triple
     (number : (s : B) → cell (g s) 0 ≡ pos (j s))
     (cells : (r : Triple × B) → encode (lift r) ≡ map (cell (encodePair encode g r)) cs)
     (e : Tables) (m : ℕ) (rows : List B) (vars : Vars) where
-  abbrev pub Lifted : List Table → ℕ → List ℕ → Type 0
-  Lifted us n vs = (v : ℕ) → Among v vs → HasRows us (lifted e n vs v) (map lift (joined iterOf j (vars v) rows))
+  abbrev pub LiftedTables : List Table → ℕ → List ℕ → Type 0
+  LiftedTables us n vs = (v : ℕ) → Among v vs → HasRows us (lifted e n vs v) (map lift (joined iterOf j (vars v) rows))
 
   one-more : (us : List Table) (n v : ℕ) (vs : List ℕ) → HasRows us (n + 1) (map lift (joined iterOf j (vars v) rows))
-      → Lifted us (n + 2) vs → Lifted us n (v ∷ vs)
+      → LiftedTables us (n + 2) vs → LiftedTables us n (v ∷ vs)
   unfolding lifted hold any
   one-more us n v vs h k u a =
       by-cases (eqb u v)
@@ -71,7 +71,7 @@ module _ (w : World) {B : Type 0} (g : B → Row) (j : B → ℕ) (lift : Triple
 
   pub sim-lifts : (vs : List ℕ) (n : ℕ) {ts : List Table} {os : List Op} {r : ℕ} {a : Attempt (List Triple)}
       → length ts ≡ n → Has ts m g rows → ((v : ℕ) → Among v vs → HasRows ts (e v) (vars v))
-      → ((us : List Table) → Extends ts us → length us ≡ n + length (lifts e m cs n vs) → Lifted us n vs
+      → ((us : List Table) → Extends ts us → length us ≡ n + length (lifts e m cs n vs) → LiftedTables us n vs
       → Simulates w os r us a)
       → Simulates w (lifts e m cs n vs ++ os) r ts a
   unfolding lifts any

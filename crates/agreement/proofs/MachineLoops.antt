@@ -1,6 +1,6 @@
 -- The rules with a loop of their own, QF and QI, against the typed rules: their parts are run under that loop, with
 -- the variables that are free there lifted into it.
---     Small q               the free variables of q are 0 to 7
+--     SmallQuery q          the free variables of q are 0 to 7
 --     sim-F, sim-I          the operators of QF after its first operand, and of QI after its condition
 use Prim.Native.Nat.{ℕ, _+_, _<_}
 use mathlib.Core.Path.{_≡_, refl, sym, _∙_}
@@ -27,7 +27,7 @@ use Rattle.agreement.specs.Typed.{Triple, row, Loop, Vars, iterOf, place
 use Rattle.agreement.specs.Typed.{allInOrder, itemsAlone, newLoop, mapOf, liftedBy, outerOf, outerInOrder}
 use Rattle.agreement.specs.Typed.{broughtBack, holding, sem, semF, truthsOf, thenLoop, keptIn, branches, semI}
 use Rattle.agreement.specs.Encoded.{encode, encodeNumber, encodeNumbers, HasRows, HasLoop, HasPairs}
-use Rattle.agreement.specs.Families.{Mask, Loops, Holds}
+use Rattle.agreement.specs.Families.{Mask, Loops, HoldsVars}
 use Rattle.agreement.specs.Machine.{Simulates, HasFree, Faithful}
 use Rattle.agreement.proofs.Distinct.{Shown, represented, distinct-rows, distinct-outer}
 use Rattle.agreement.proofs.NewLoops.{newMask, newEnv, loops-new, holds-new, map-rises}
@@ -38,8 +38,8 @@ use Rattle.agreement.proofs.MachineOperators.{attaching, projecting, un
 use Rattle.agreement.proofs.MachineOperators.{numbering, judging}
 use Rattle.agreement.proofs.MachineLifts.{Among, any-kept, any-below, sim-lifts}
 
-abbrev pub Small : Query → Type 0
-Small q = (v : ℕ) → free v q ≡ true → v < 8
+abbrev pub SmallQuery : Query → Type 0
+SmallQuery q = (v : ℕ) → free v q ≡ true → v < 8
 
 and-left : (a b : Bool) → a && b ≡ true → a ≡ true
 and-left true b e = refl
@@ -66,7 +66,7 @@ module _ (w : World) {ts : List Table} (n : ℕ) (here : length ts ≡ n) where
       sim-end w (has-as encode (λ r. row (r .0 .1 .0) (r .1) (r .0 .0 .item)) (λ r. refl) j))))
 
 -- the variables of the body of a `for`: its own, and the others that are free there, lifted
-free-F : (ts : List Table) (v : ℕ) (b : Query) (e : Tables) (own : List Triple) (vars : Vars) (m k : ℕ) → Small b
+free-F : (ts : List Table) (v : ℕ) (b : Query) (e : Tables) (own : List Triple) (vars : Vars) (m k : ℕ) → SmallQuery b
     → HasRows ts m own
     → ((u : ℕ) → Among u (othersIn v b) → HasRows ts (lifted e k (othersIn v b) u) (vars u))
     → HasFree ts b (hold v m (lifted e k (othersIn v b))) (holding v own vars)
@@ -98,7 +98,7 @@ module _ (w : World) {ts : List Table} (n : ℕ) (here : length ts ≡ n) where
       (has-as encodeNumbers (λ r. (r .0 .iter, r .1)) (λ r. refl) j₅))))))
 
   pub sim-F : {a : ℕ} {x : List Triple} {m : Mask} (v : ℕ) (b : Query) (e : Tables) (vars : Vars) (ρ : ℕ → Env)
-      → Lawful w → Shown m x → Holds m ρ vars → Faithful w b → Small b
+      → Lawful w → Shown m x → HoldsVars m ρ vars → Faithful w b → SmallQuery b
       → HasRows ts a x → ((u : ℕ) → not (eqb u v) && free u b ≡ true → HasRows ts (e u) (vars u))
       → let us = othersIn v b in
       let lift = lifts e (n + 4) (4 ∷ 1 ∷ 2 ∷ []) (n + 5) us in
@@ -135,7 +135,8 @@ module _ (w : World) {ts : List Table} (n : ℕ) (here : length ts ≡ n) where
   -- a branch: its free variables are kept in its loop, then it is run under that loop
   sim-branch : {os : List Op} {r m : ℕ} {loop : Loop} {k : List Triple → Attempt (List Triple)}
       (q : Query) (e : Tables) (vars : Vars) (part : Mask) (ρ : ℕ → Env) → Loops loop part
-      → Holds part ρ (λ u. keptIn loop (vars u)) → Faithful w q → Small q → HasLoop ts m loop → HasFree ts q e vars
+      → HoldsVars part ρ (λ u. keptIn loop (vars u)) → Faithful w q → SmallQuery q → HasLoop ts m loop
+      → HasFree ts q e vars
       → let lift = lifts e m (0 ∷ 1 ∷ 2 ∷ []) n (freeIn q) in
       let y = tr q (n + length lift) m (lifted e n (freeIn q)) in
       ((rows : List Triple) → Then w ts (next (n + length lift) y) (y .result) encode rows os r (k rows))
@@ -169,8 +170,8 @@ module _ (w : World) {ts : List Table} (n : ℕ) (here : length ts ≡ n) where
       s t d u₄ (extends-then earlier p₄) (omega arith) (has-kept p₄ chosen) j₄))))
 
   pub sim-I : {c l : ℕ} {x : List Triple} {loop : Loop} {m : Mask} (a b : Query) (e : Tables) (vars : Vars)
-      (ρ : ℕ → Env) → Lawful w → Shown m x → Loops loop m → Holds m ρ vars
-      → Faithful w a → Faithful w b → Small a → Small b → HasLoop ts l loop → HasRows ts c x
+      (ρ : ℕ → Env) → Lawful w → Shown m x → Loops loop m → HoldsVars m ρ vars
+      → Faithful w a → Faithful w b → SmallQuery a → SmallQuery b → HasLoop ts l loop → HasRows ts c x
       → HasFree ts a e vars → HasFree ts b e vars
       → let liftA = lifts e (n + 2) (0 ∷ 1 ∷ 2 ∷ []) (n + 4) (freeIn a) in
       let i = n + 4 + length liftA in

@@ -26,16 +26,16 @@ use Rattle.theorems.specs.Closed.{Closed}
 use Rattle.theorems.specs.Nodes.{Lawful}
 use Rattle.agreement.specs.Typed.{Triple, Loop, Vars, holding, sem, semPlan}
 use Rattle.agreement.specs.Encoded.{encodeNumber, HasRows}
-use Rattle.agreement.specs.Families.{Mask, Loops, Holds}
+use Rattle.agreement.specs.Families.{Mask, Loops, HoldsVars}
 use Rattle.agreement.specs.Tieless.{Tieless}
-use Rattle.agreement.specs.Machine.{Simulates, HasFree, Faithful, Ends}
+use Rattle.agreement.specs.Machine.{Simulates, HasFree, Faithful, MachineEnds}
 use Rattle.agreement.proofs.Distinct.{Shown, represented}
 use Rattle.agreement.proofs.Sequences.{holds-bind}
 use Rattle.agreement.proofs.Theorem.{agreement}
 use Rattle.agreement.proofs.Whole.{first, loops-first, holds-nothing}
 use Rattle.agreement.proofs.Machine.{has-kept, sim-end, sim-then, sim-op}
 use Rattle.agreement.proofs.MachineRules.{sim-L, sim-E, sim-R, sim-S, sim-O, sim-C, sim-D, sim-X, sim-last}
-use Rattle.agreement.proofs.MachineLoops.{Small, sim-F, sim-I}
+use Rattle.agreement.proofs.MachineLoops.{SmallQuery, sim-F, sim-I}
 
 -- the free variables of a part
 module _ {ts : List Table} {e : Tables} {vars : Vars} where
@@ -54,13 +54,13 @@ free-bind : (ts : List Table) (e : Tables) (vars : Vars) (q : Query) (v t : ℕ)
 unfolding hold holding
 free-bind ts e vars q v t x h i u f = by-cases (eqb u v) (λ k. rw k h) (λ k. rw k (i u (rw (k, f))))
 
-small : (q : Query) (vs : List ℕ) → Closed q vs → Small q
+small : (q : Query) (vs : List ℕ) → Closed q vs → SmallQuery q
 small q vs c v f = free-bound q vs v c f .1
 
 module _ (w : World) (laws : Lawful w) where
   -- what an operand gives represents what it means
   shown : (q : Query) (ρ : ℕ → Env) (loop : Loop) (m : Mask) (vars : Vars) {x : List Triple}
-      → Loops loop m → Holds m ρ vars → sem w q loop vars ≡ gives x → Shown m x
+      → Loops loop m → HoldsVars m ρ vars → sem w q loop vars ≡ gives x → Shown m x
   shown q ρ loop m vars loops holds d = represented (agreement w laws q ρ loop m vars loops holds) d
 
   pub simulates : (q : Query) (vs : List ℕ) → Closed q vs → Faithful w q
@@ -144,7 +144,7 @@ unfolding plan resultOf next tailLast
 plan-length q = let x = tr q 1 0 (λ v. 0) in omega (arith, length-append (x .ops) (tailLast (next 1 x) (x .result)))
 
 module _ (w : World) (laws : Lawful w) (q : Query) (closed : Closed q []) where
-  pub plan-gives : (t : List Triple) → semPlan w q ≡ gives t → Ends w q t
+  pub plan-gives : (t : List Triple) → semPlan w q ≡ gives t → MachineEnds w q t
   plan-gives t e =
       let r = plan-simulates w laws q closed .gave t e in
       record {

@@ -30,7 +30,7 @@ use Rattle.laws.proofs.Joins.{joined-right, joined-one, joined-none}
 use Rattle.meaning.specs.Meaning.{Env, bind}
 use Rattle.agreement.specs.Typed.{Triple, row, Vars, iterOf, placeOf, byNumber, together, holding}
 use Rattle.agreement.specs.Typed.{allInOrder, itemsAlone, newLoop, mapOf, liftedBy}
-use Rattle.agreement.specs.Families.{Family, Mask, placed, Represents, Loops, Outside, Holds}
+use Rattle.agreement.specs.Families.{Family, Mask, placed, Represents, Loops, Outside, HoldsVars}
 use Rattle.agreement.proofs.Keys.{byCell-lawful, later, later-last, before-le}
 use Rattle.agreement.proofs.Tables.{sort-placed, placed-in}
 use Rattle.agreement.proofs.Agreeing.{outside-in}
@@ -171,8 +171,8 @@ module _ (m : Mask) (a : List Triple) (s : Family) (out : Outside m s) (rep : Re
           (eq-eqb (r .iter) (r .iter) refl))) in
           (outside-in m s out (r .iter) (r .item) item, item)
 
-  pub holds-new : (v : ℕ) (ρ : ℕ → Env) (vars : Vars) → Holds m ρ vars
-      → Holds (newMask (allInOrder a)) (newEnv v ρ (allInOrder a))
+  pub holds-new : (v : ℕ) (ρ : ℕ → Env) (vars : Vars) → HoldsVars m ρ vars
+      → HoldsVars (newMask (allInOrder a)) (newEnv v ρ (allInOrder a))
       (holding v (itemsAlone (allInOrder a)) (λ u. liftedBy (mapOf (allInOrder a)) (vars u)))
   unfolding newEnv bind holding placed
   holds-new v ρ vars holds u n =

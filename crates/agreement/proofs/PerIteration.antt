@@ -18,7 +18,7 @@ use Rattle.laws.proofs.Groups.{numbersIn-at, within-gather}
 use Rattle.laws.specs.Attempt.{Attempt, fails, gives, each}
 use Rattle.agreement.specs.Typed.{Triple, iterOf}
 use Rattle.agreement.specs.Families.{Family, placed, Represents}
-use Rattle.agreement.proofs.Attempts.{got, Outcome, allGive, oneFails, outcome}
+use Rattle.agreement.proofs.Attempts.{got, EachOutcome, allGive, oneFails, outcome}
 
 pub data Worked {B : Type 0} (s : Family) (d : B → ℕ) (h : ℕ → Attempt (List B)) (run : Attempt (List B)) : Type 0
   where
@@ -44,7 +44,7 @@ module _ {B : Type 0} (s : Family) (d : B → ℕ) (h : ℕ → Attempt (List B)
   unfolding within gather
   worked = go (outcome h (numbersIn iterOf a))
     where
-      go : Outcome h (numbersIn iterOf a) → Worked s d h (each h (numbersIn iterOf a))
+      go : EachOutcome h (numbersIn iterOf a) → Worked s d h (each h (numbersIn iterOf a))
       go (allGive g e) =
           allWork (gather (λ i. got (h i)) (numbersIn iterOf a)) e
           (λ i f.

@@ -22,7 +22,7 @@ use Rattle.laws.specs.Attempt.{gives}
 use Rattle.meaning.specs.Meaning.{Env, bind}
 use Rattle.agreement.specs.Typed.{Triple, Vars, byNumber, holding, sides}
 use Rattle.agreement.specs.Typed.{sidesInOrder, semS}
-use Rattle.agreement.specs.Families.{Family, Mask, placed, Represents, Outside, Holds, Agree}
+use Rattle.agreement.specs.Families.{Family, Mask, placed, Represents, Outside, HoldsVars, Agree}
 use Rattle.agreement.proofs.Keys.{byCell-lawful, later, later-last, later-apart, same-lt, before-le}
 use Rattle.agreement.proofs.Tables.{placed-iter, placed-sorted, map-placed, numbered-at}
 use Rattle.agreement.proofs.Agreeing.{agree-gives}
@@ -91,8 +91,8 @@ rule-S m a b s u os ou ra rb =
     agree-gives (semS a b) (λ i. s i ++ u i) (λ i e. ap₂ _++_ (os i e) (ou i e)) (represents-S a b s u ra rb)
 
 -- QT
-pub holds-bind : (m : Mask) (ρ : ℕ → Env) (vars : Vars) → Holds m ρ vars → (v : ℕ) (t : List Triple) (s : Family)
-    → Outside m s → Represents t s → Holds m (λ i. bind v (s i) (ρ i)) (holding v t vars)
+pub holds-bind : (m : Mask) (ρ : ℕ → Env) (vars : Vars) → HoldsVars m ρ vars → (v : ℕ) (t : List Triple) (s : Family)
+    → Outside m s → Represents t s → HoldsVars m (λ i. bind v (s i) (ρ i)) (holding v t vars)
 unfolding bind holding
 holds-bind m ρ vars holds v t s out rep u i =
     by-cases (eqb u v)

@@ -14,7 +14,7 @@ use Rattle.agreement.specs.Typed.{Triple, row, iterOf, semD}
 use Rattle.agreement.specs.Families.{Family, Mask, placed, Represents, Outside, Agree}
 use Rattle.agreement.proofs.Attempts.{got, each-fails, each-gives, extended-then, alone, alone-gives}
 use Rattle.agreement.proofs.Attempts.{alone-fails, all-alone, fails-gives}
-use Rattle.agreement.proofs.Agreeing.{agree-each, Given, outside-in}
+use Rattle.agreement.proofs.Agreeing.{agree-each, AllGiven, outside-in}
 use Rattle.agreement.proofs.Tables.{placed-in}
 
 module _ (w : World) where
@@ -30,7 +30,7 @@ module _ (w : World) where
   own r = all-alone (λ x. r .iter ≡ x .iter) (row (r .iter) (r .place)) (λ z. refl) (w .value (r .item))
 
   -- where every row has a value, so has every item, and the values stand at the same places
-  all-given : (i n : ℕ) (xs : List ℤ) → Given iterOf rowVal own (placed i n xs)
+  all-given : (i n : ℕ) (xs : List ℤ) → AllGiven iterOf rowVal own (placed i n xs)
       → All (λ x. val x ≡ gives (got (val x))) xs
   unfolding placed rowVal val
   all-given i n [] h = tt
@@ -43,7 +43,7 @@ module _ (w : World) where
   first-placed i n fails zs e = fails-gives refl e
   first-placed i n (gives z) zs e = refl
 
-  all-placed : (i n : ℕ) (xs : List ℤ) → Given iterOf rowVal own (placed i n xs)
+  all-placed : (i n : ℕ) (xs : List ℤ) → AllGiven iterOf rowVal own (placed i n xs)
       → gather (λ r. got (rowVal r)) (placed i n xs) ≡ placed i n (gather (λ x. got (val x)) xs)
   unfolding placed rowVal val gather
   all-placed i n [] h = refl
@@ -59,9 +59,9 @@ module _ (w : World) where
       (sym (extended-then (λ r. w .value (r .item)) (λ r. row (r .0 .iter) (r .0 .place) (r .1)) a))
       (agree-each iterOf rowVal own m (λ i. values w (s i)) (λ i. gather (λ x. got (val x)) (s i)) a
       (λ i e. ap (gather (λ x. got (val x))) (out i e))
-      (λ i h k. each-gives val (s i) (all-given i 0 (s i) (subst (Given iterOf rowVal own) (rep i) h)))
+      (λ i h k. each-gives val (s i) (all-given i 0 (s i) (subst (AllGiven iterOf rowVal own) (rep i) h)))
       (λ i h. ap (gather (λ r. got (rowVal r))) (rep i)
-      ∙ all-placed i 0 (s i) (subst (Given iterOf rowVal own) (rep i) h))
+      ∙ all-placed i 0 (s i) (subst (AllGiven iterOf rowVal own) (rep i) h))
       (λ i r k e.
       let item : In (r .item) (s i) = placed-in i (s i) r (subst (In r) (rep i) k) in (
         outside-in m s out i (r .item) item,

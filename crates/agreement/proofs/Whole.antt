@@ -23,7 +23,7 @@ use Rattle.theorems.specs.Nodes.{Lawful}
 use Rattle.meaning.specs.Query.{Query}
 use Rattle.meaning.specs.Meaning.{eval}
 use Rattle.agreement.specs.Typed.{Triple, iterOf, placeOf, itemOf, byNumber, sem, semLast, semPlan}
-use Rattle.agreement.specs.Families.{Family, Mask, placed, Represents, Loops, Outside, Holds, Agree, agrees}
+use Rattle.agreement.specs.Families.{Family, Mask, placed, Represents, Loops, Outside, HoldsVars, Agree, agrees}
 use Rattle.agreement.specs.Families.{failing, SameItems, bothGive, bothFail}
 use Rattle.agreement.proofs.Keys.{byCell-lawful}
 use Rattle.agreement.proofs.Tables.{map-placed, numbered-at}
@@ -38,7 +38,7 @@ pub loops-first : Loops (1 ∷ []) first
 unfolding first filter
 loops-first i = by-cases (eqb i 1) (λ e. rw e (ap (λ (j : ℕ). j ∷ []) (sym (eqb-true i 1 e)))) (λ e. rw e)
 
-pub holds-nothing : Holds first (λ i v. []) (λ v. [])
+pub holds-nothing : HoldsVars first (λ i v. []) (λ v. [])
 unfolding within filter placed
 holds-nothing v i = by-cases (first i) (λ e. rw e) (λ e. rw e)
 

@@ -5,7 +5,7 @@
 --     Represents t s         in table t the rows of each iteration i, in row order, are s i at places 1, 2, ..
 --     Loops l m              the loop table l holds each iteration of m once, and no other
 --     Outside m s            s is empty outside the iterations of m
---     Holds m ρ vars         each variable's table represents what ρ says of it in the iterations of m, else nothing
+--     HoldsVars m ρ vars     each variable's table represents what ρ says of it in the iterations of m, else nothing
 --     Agree m f run          run is a table that represents what f gives in the iterations of m, or f fails in one of
 --                            them and run fails
 --     Agrees ρ f run         run agrees with f under every loop and all variables that hold ρ
@@ -41,8 +41,8 @@ Loops l m = (i : ℕ) → filter (eqb i) l ≡ cond (m i) (i ∷ []) []
 abbrev pub Outside : Mask → Family → Type 0
 Outside m s = (i : ℕ) → m i ≡ false → s i ≡ []
 
-abbrev pub Holds : Mask → (ℕ → Env) → Vars → Type 0
-Holds m ρ vars = (v : ℕ) → Represents (vars v) (λ i. cond (m i) (ρ i v) [])
+abbrev pub HoldsVars : Mask → (ℕ → Env) → Vars → Type 0
+HoldsVars m ρ vars = (v : ℕ) → Represents (vars v) (λ i. cond (m i) (ρ i v) [])
 
 pub data Agree (m : Mask) (f : ℕ → Attempt (List ℤ)) (run : Attempt (List Triple)) : Type 0 where
   agrees : (t : List Triple) (s : Family) → run ≡ gives t → ((i : ℕ) → m i ≡ true → f i ≡ gives (s i)) → Outside m s
@@ -51,7 +51,7 @@ pub data Agree (m : Mask) (f : ℕ → Attempt (List ℤ)) (run : Attempt (List 
 
 -- under every loop and all variables that hold ρ
 abbrev pub Agrees : (ℕ → Env) → (ℕ → Attempt (List ℤ)) → Sem → Type 0
-Agrees ρ f run = (l : Loop) (m : Mask) (vars : Vars) → Loops l m → Holds m ρ vars → Agree m f (run l vars)
+Agrees ρ f run = (l : Loop) (m : Mask) (vars : Vars) → Loops l m → HoldsVars m ρ vars → Agree m f (run l vars)
 
 -- the whole plan against the whole query: the plan's table has exactly the query's items, placed in iteration 1
 pub data SameItems (run : Attempt (List Triple)) (items : Attempt (List ℤ)) : Type 0 where

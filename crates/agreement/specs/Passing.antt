@@ -8,10 +8,10 @@
 --     theRun i lent           .. the run in the lent cells
 --     Refused n a             answer a is refusal n, at some place
 --     Cleared z call          a call leaves as much as it was lent, all z where it refuses
---     Stood ts lent left ..   what a run's answer says of the lent cells, where its tables are ts
+--     StoodTables ts lent left ..   what a run's answer says of the lent cells, where its tables are ts
 --     itemsAt left start n    the item column of n rows of three cells from cell start on
 --     Alike a r e             a run and an evaluation both answer 7, and a fails; or both give the items that a gives
---     Held o a left           an answer and a slice in hand, of which a contract says that they are those of outcome o
+--     HeldOutcome o a left    an answer and a slice in hand, of which a contract says that they are those of outcome o
 --     SixBelow k call         6 exactly where the smaller of lent cells and 65,536 is below k; else one answer
 use Prim.Native.Nat.{ℕ, _-_, _*_, _≤_, _<_}
 use mathlib.Core.Path.{_≡_}
@@ -74,7 +74,7 @@ pub record Cleared {A : Type 0} (z : A) (call : ℕ → Outcome A) : Type 0 wher
 
 -- all tables stand end to end, zeros after them; the answer names the last one's start and rows, and the cells filled.
 -- A last table without rows starts at the cells filled
-pub record Stood (ts : List Table) (lent : ℕ) (left : List ℤ) (start rows filled : ℕ) : Type 0 where
+pub record StoodTables (ts : List Table) (lent : ℕ) (left : List ℤ) (start rows filled : ℕ) : Type 0 where
   pub cells : left ≡ padded (pos 0) lent (gather flat ts)
   pub count : filled ≡ length (gather flat ts)
   pub begins : start ≡ filled - rows * 3
@@ -89,7 +89,7 @@ pub data Alike (a : Attempt (List ℤ)) (r e : Outcome ℤ) : Type 0 where
       → r .answer ≡ gives (start ∷ length items ∷ filled ∷ []) → e .answer ≡ gives (length items ∷ count ∷ [])
       → itemsAt (r .left) start (length items) ≡ items → take (length items) (e .left) ≡ items → Alike a r e
 
-pub record Held {A : Type 0} (o : Outcome A) (answer : Answer) (left : List A) : Type 0 where
+pub record HeldOutcome {A : Type 0} (o : Outcome A) (answer : Answer) (left : List A) : Type 0 where
   pub answers : answer ≡ o .answer
   pub leaves : left ≡ o .left
 

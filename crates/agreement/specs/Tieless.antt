@@ -4,7 +4,7 @@
 --     Untied same xs        no two members of xs are the same
 --     Distinct cs f rows    no two typed rows are equal in the columns cs, each as the row of cells that f says
 --     orderedBy p ks        the columns by which RN orders: p, then the keys; 255: the keys alone
---     Apart o ts            operator o, on the tables ts, meets no two rows that it would take as they stand
+--     RowsApart o ts        operator o, on the tables ts, meets no two rows that it would take as they stand
 --     Tieless w os ts       .. and so does each of the operators os, on the tables ts and those made before it
 use Prim.Native.Nat.{ℕ}
 use mathlib.Core.Path.{_≡_}
@@ -33,23 +33,23 @@ abbrev pub orderedBy : ℕ → List ℕ → List ℕ
 orderedBy p ks = cond (eqb p 255) ks (p ∷ ks)
 
 -- all other operators look at each row by itself, or at all of them alike
-abbrev pub Apart : Op → List Table → Type 0
-Apart RT ts = Unit {0}
-Apart (RA t z) ts = Unit {0}
-Apart (RP t cs) ts = Unit {0}
-Apart (RU t u) ts = Unit {0}
-Apart (RD t u) ts = Unit {0}
-Apart (RS t c) ts = Unit {0}
-Apart (RJ t c u d) ts = Unit {0}
-Apart (RN t p ks) ts = Untied (alike (orderedBy p ks)) (tableOf ts t)
-Apart (RF t f c d) ts = Unit {0}
-Apart (RV t c) ts = Unit {0}
-Apart (RC t c) ts = Unit {0}
-Apart (RE t) ts = Untied (alike (0 ∷ 1 ∷ [])) (tableOf ts t)
-Apart (RK t c) ts = Unit {0}
-Apart (RX t axis test) ts = Unit {0}
-Apart (RO t k) ts = Unit {0}
+abbrev pub RowsApart : Op → List Table → Type 0
+RowsApart RT ts = Unit {0}
+RowsApart (RA t z) ts = Unit {0}
+RowsApart (RP t cs) ts = Unit {0}
+RowsApart (RU t u) ts = Unit {0}
+RowsApart (RD t u) ts = Unit {0}
+RowsApart (RS t c) ts = Unit {0}
+RowsApart (RJ t c u d) ts = Unit {0}
+RowsApart (RN t p ks) ts = Untied (alike (orderedBy p ks)) (tableOf ts t)
+RowsApart (RF t f c d) ts = Unit {0}
+RowsApart (RV t c) ts = Unit {0}
+RowsApart (RC t c) ts = Unit {0}
+RowsApart (RE t) ts = Untied (alike (0 ∷ 1 ∷ [])) (tableOf ts t)
+RowsApart (RK t c) ts = Unit {0}
+RowsApart (RX t axis test) ts = Unit {0}
+RowsApart (RO t k) ts = Unit {0}
 
 abbrev pub Tieless : World → List Op → List Table → Type 0
 Tieless w [] ts = Unit {0}
-Tieless w (o ∷ os) ts = Apart o ts × ((t : Table) → make w o ts ≡ gives t → Tieless w os (ts ++ (t ∷ [])))
+Tieless w (o ∷ os) ts = RowsApart o ts × ((t : Table) → make w o ts ≡ gives t → Tieless w os (ts ++ (t ∷ [])))

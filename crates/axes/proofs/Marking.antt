@@ -16,7 +16,7 @@ use Rattle.codes.specs.declared.Axis.{Axis}
 use Rattle.codes.specs.declared.Test.{Test}
 use Rattle.meaning.specs.Catalogue.{catalogueOf}
 use Rattle.meaning.specs.World.{onAxis, passes}
-use Rattle.axes.specs.Steps.{Marks, Part}
+use Rattle.axes.specs.Steps.{Marks, AxisPart}
 use Rattle.nodesets.specs.Nodes.{ranks}
 
 module _ (R : ℕ → ℕ → Bool) (T : ℕ → Bool) (xs : List ℕ) (old : List Bool) where
@@ -67,7 +67,7 @@ module _ (R : ℕ → ℕ → Bool) (T : ℕ → Bool) (xs : List ℕ) (old : Li
         by-place u h j (no k) = other u k ∙ m .inside u (omega arith) j
 
 module _ (doc : List ℕ) (n : ℕ) (axis : Axis) (test : Test) (from old : List Bool) where
-  pub part-none : (k : ℕ) → Part k k doc n axis test from old old
+  pub part-none : (k : ℕ) → AxisPart k k doc n axis test from old old
   part-none k = marks-none (onAxis (catalogueOf doc n) axis) (passes (catalogueOf doc n) test) (ranks n from) old k
 
   module _
@@ -77,14 +77,14 @@ module _ (doc : List ℕ) (n : ℕ) (axis : Axis) (test : Test) (from old : List
     kept : b ≡ (any (λ x. onAxis (catalogueOf doc n) axis x v) (ranks n from) && passes (catalogueOf doc n) test v)
     kept = e ∙ ap (λ t. t && passes (catalogueOf doc n) test v) flag
 
-    pub part-up : Part 0 v doc n axis test from old new → Part 0 (v + 1) doc n axis test from old (set new v b)
+    pub part-up : AxisPart 0 v doc n axis test from old new → AxisPart 0 (v + 1) doc n axis test from old (set new v b)
     part-up m =
         marks-up (onAxis (catalogueOf doc n) axis) (passes (catalogueOf doc n) test) (ranks n from) old new v b
         (omega (arith, m .long)) kept 0 (omega arith) m
 
     pub part-down :
-        (i : ℕ) → i ≡ v + 1 → v < n → Part i n doc n axis test from old new
-        → Part v n doc n axis test from old (set new v b)
+        (i : ℕ) → i ≡ v + 1 → v < n → AxisPart i n doc n axis test from old new
+        → AxisPart v n doc n axis test from old (set new v b)
     part-down i s l m =
         marks-down (onAxis (catalogueOf doc n) axis) (passes (catalogueOf doc n) test) (ranks n from) old new v b
         (omega (arith, m .long)) kept i n s l m

@@ -6,7 +6,7 @@
 --       long                 no flag comes or goes
 --     Known doc n            the bytes hold n rows, whose sizes and levels are those of a sound catalogue
 --     Ready doc n from to    .. and each row has its flags
---     Part lo hi doc n axis test from old new     the part of a step from lo up to hi
+--     AxisPart lo hi doc n axis test from old new   the part of a step from lo up to hi
 --     Step doc n axis test from old new           a whole step: what it leaves in the flags of n ranks
 --     orSelf own             the axis of descendants, with the row itself or without it
 use Prim.Native.Nat.{ℕ, _*_, _<_, _≤_}
@@ -40,12 +40,12 @@ pub record Ready (doc : List ℕ) (n : ℕ) (from to : List Bool) : Type 0 where
   pub targets : n ≤ length to
 
 -- v is marked after exactly when some x marked before has v on the axis in the same fragment, and v passes the test
-abbrev pub Part : ℕ → ℕ → List ℕ → ℕ → Axis → Test → List Bool → List Bool → List Bool → Type 0
-Part lo hi doc n axis test from old new =
+abbrev pub AxisPart : ℕ → ℕ → List ℕ → ℕ → Axis → Test → List Bool → List Bool → List Bool → Type 0
+AxisPart lo hi doc n axis test from old new =
     Marks lo hi (onAxis (catalogueOf doc n) axis) (passes (catalogueOf doc n) test) (ranks n from) old new
 
 abbrev pub Step : List ℕ → ℕ → Axis → Test → List Bool → List Bool → List Bool → Type 0
-Step doc n axis test from old new = Part 0 n doc n axis test from old new
+Step doc n axis test from old new = AxisPart 0 n doc n axis test from old new
 
 -- descendants, with the row itself or without it
 abbrev pub orSelf : Bool → Axis

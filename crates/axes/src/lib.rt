@@ -43,7 +43,7 @@ pub fn passes(doc: &[u8], test: Test, v: Rank) -> bool
 }
 
 // The flag of a row that is on the axis or not.
-fn keep(on: bool, doc: &[u8], test: Test, v: Rank) -> bool
+fn takes(on: bool, doc: &[u8], test: Test, v: Rank) -> bool
     requires { ⌜ 10 * (v .0) + 10 ≤ length (now doc) ⌝ }
     ensures { λ r. ⌜ ((n : ℕ) → r ≡ (on && World.passes (catalogueOf (now (doc .entry)) n) test (v .0))) ⌝ }
 {
@@ -81,7 +81,7 @@ fn self_step(doc: &[u8], rows: usize, test: Test, from: &[bool], to: &mut [bool]
 {
     let mut v: usize = 0;
     while v < rows {
-        to[v] = keep(from[v], doc, test, Rank(v));
+        to[v] = takes(from[v], doc, test, Rank(v));
         v += 1;
     }
 }
@@ -98,7 +98,7 @@ fn descendant_step(doc: &[u8], rows: usize, test: Test, own: bool, from: &[bool]
     while v < rows {
         let marked = from[v];
         let on = (v < until.0) | (own & marked);
-        to[v] = keep(on, doc, test, Rank(v));
+        to[v] = takes(on, doc, test, Rank(v));
         let end = end_of(doc, rows, Rank(v));
         until = pick(marked & (until.0 <= end.0), Rank(end.0 + 1), until);
         v += 1;
@@ -117,7 +117,7 @@ fn following_step(doc: &[u8], rows: usize, test: Test, from: &[bool], to: &mut [
     while v < rows {
         let level = level_of(doc, rows, Rank(v));
         let entered = pick(level == 0, Rank(rows), least);
-        to[v] = keep(entered.0 < v, doc, test, Rank(v));
+        to[v] = takes(entered.0 < v, doc, test, Rank(v));
         let end = end_of(doc, rows, Rank(v));
         least = pick(from[v] & (end.0 < entered.0), end, entered);
         v += 1;
@@ -135,7 +135,7 @@ fn child_step(doc: &[u8], rows: usize, test: Test, from: &[bool], to: &mut [bool
     while v < rows {
         let level = level_of(doc, rows, Rank(v));
         let on = opens[level];
-        to[v] = keep(on, doc, test, Rank(v));
+        to[v] = takes(on, doc, test, Rank(v));
         opens[level + 1] = from[v];
         v += 1;
     }
@@ -152,7 +152,7 @@ fn ancestor_step(doc: &[u8], rows: usize, test: Test, from: &[bool], to: &mut [b
     while 0 < left {
         let v = left - 1;
         let end = end_of(doc, rows, Rank(v));
-        to[v] = keep(next.0 <= end.0, doc, test, Rank(v));
+        to[v] = takes(next.0 <= end.0, doc, test, Rank(v));
         next = pick(from[v], Rank(v), next);
         left = v;
     }
@@ -170,7 +170,7 @@ fn preceding_step(doc: &[u8], rows: usize, test: Test, from: &[bool], to: &mut [
     while 0 < left {
         let v = left - 1;
         let end = end_of(doc, rows, Rank(v));
-        to[v] = keep(end.0 < last.0, doc, test, Rank(v));
+        to[v] = takes(end.0 < last.0, doc, test, Rank(v));
         let latest = pick(from[v] & (last.0 == 0), Rank(v), last);
         let level = level_of(doc, rows, Rank(v));
         last = pick(level == 0, Rank(0), latest);
@@ -190,7 +190,7 @@ fn parent_step(doc: &[u8], rows: usize, test: Test, from: &[bool], to: &mut [boo
     while 0 < left {
         let v = left - 1;
         let level = level_of(doc, rows, Rank(v));
-        to[v] = keep(waits[level + 1], doc, test, Rank(v));
+        to[v] = takes(waits[level + 1], doc, test, Rank(v));
         let waiting = waits[level] | from[v];
         waits[level + 1] = false;
         waits[level] = waiting;

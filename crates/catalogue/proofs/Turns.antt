@@ -100,17 +100,17 @@ module _ (doc : List ℕ) (n : ℕ) where
       exact-on h k = exact h ∙ rw (← read, ← count, eq-eqb s d k)
 
 module _ (doc : List ℕ) where
-  abbrev Read : Checked → Type 0
-  Read a = counted a ≡ rowsSound 2048 doc 0 0
+  abbrev RowsRead : Checked → Type 0
+  RowsRead a = counted a ≡ rowsSound 2048 doc 0 0
 
-  pub check-bad : (p : ℕ) → Read (Unsound p) → answered (Unsound p) ≡ catalogueCall doc
+  pub check-bad : (p : ℕ) → RowsRead (Unsound p) → answered (Unsound p) ≡ catalogueCall doc
   unfolding counted answered catalogueCall catalogueAnswer catalogueRead reading
   check-bad p e = rw (← e)
 
-  pub check-on : (n : ℕ) → Read (Rows n) → catalogueAnswer (sizesExact (catalogueOf doc n) 0 n) ≡ catalogueCall doc
+  pub check-on : (n : ℕ) → RowsRead (Rows n) → catalogueAnswer (sizesExact (catalogueOf doc n) 0 n) ≡ catalogueCall doc
   unfolding counted catalogueCall catalogueRead reading
   check-on n e = rw (← e)
 
-  pub check-rows : (n : ℕ) → Read (Rows n) → 10 * n ≤ length doc
+  pub check-rows : (n : ℕ) → RowsRead (Rows n) → 10 * n ≤ length doc
   unfolding counted
   check-rows n e = omega (arith, passed 2048 doc 0 0 n (omega arith) (sym e) .whole)

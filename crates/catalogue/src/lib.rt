@@ -1,7 +1,7 @@
 // The catalogue's check: every row, then the sizes.
 use cells::Rank;
 use codes::limits::ROWS;
-use sound_rows::Row;
+use sound_rows::ReadRow;
 ghost use mathlib.Core.Path.{_≡_};
 ghost use Prim.Native.Nat.{_+_, _*_, _-_, _≤_, _<_};
 ghost use lib.ListN.{length};
@@ -27,7 +27,7 @@ fn rows_sound(doc: &[u8]) -> Checked
         if doc.len() <= at {
             return Checked::Rows(r);
         }
-        let Row::Level(level) = sound_rows::read_row(doc, Rank(r), most) else {
+        let ReadRow::Level(level) = sound_rows::read_row(doc, Rank(r), most) else {
             return Checked::Unsound(at);
         };
         most = level + 1;

@@ -190,16 +190,16 @@ Ranged (Truth b) = Unit {0}
 Ranged (Node r) = Unit {0}
 
 -- the item that a cell holds, with what is known of it
-abbrev Holds : ℤ → Type 0
-Holds z = (i : Item) × (held z ≡ Held.Item i) × (cellOf i ≡ z) × Ranged i
+abbrev HoldsItem : ℤ → Type 0
+HoldsItem z = (i : Item) × (held z ≡ Held.Item i) × (cellOf i ≡ z) × Ranged i
 
-past-cases : (n : ℕ) → 0x8000_0000 ≤ n → (held (pos n) ≡ Held.Stray) ⊎ Holds (pos n)
+past-cases : (n : ℕ) → 0x8000_0000 ≤ n → (held (pos n) ≡ Held.Stray) ⊎ HoldsItem (pos n)
 unfolding held cellOf
 past-cases n h =
     by-tests (eqb n 0x1_0000_0000) (eqb n 0x1_0000_0001) (ltb n 0x2_0000_0000) refl refl refl
   where
     by-tests : (f t b : Bool) → eqb n 0x1_0000_0000 ≡ f → eqb n 0x1_0000_0001 ≡ t → ltb n 0x2_0000_0000 ≡ b
-        → (held (pos n) ≡ Held.Stray) ⊎ Holds (pos n)
+        → (held (pos n) ≡ Held.Stray) ⊎ HoldsItem (pos n)
     by-tests true t b d e k =
         let m = eqb-true n _ d in
         inr (Truth false, ap (λ (x : ℕ). held (pos x)) m, ap pos (sym m), tt)
@@ -213,16 +213,16 @@ past-cases n h =
         let back : 0x2_0000_0000 + (n - 0x2_0000_0000) ≡ n = omega arith in
         inr (Node (record { 0 = n - 0x2_0000_0000 }), held-node n m, ap pos back, tt)
 
-holds-cases : (z : ℤ) → (held z ≡ Held.Stray) ⊎ Holds z
+holds-cases : (z : ℤ) → (held z ≡ Held.Stray) ⊎ HoldsItem z
 unfolding cellOf
 holds-cases z = by-tests (inRange z) (ltZ z (pos 0)) refl refl
   where
-    by-tests : (s t : Bool) → inRange z ≡ s → ltZ z (pos 0) ≡ t → (held z ≡ Held.Stray) ⊎ Holds z
+    by-tests : (s t : Bool) → inRange z ≡ s → ltZ z (pos 0) ≡ t → (held z ≡ Held.Stray) ⊎ HoldsItem z
     by-tests true t d e = inr (Integer z, held-integer z d, refl, d)
     by-tests false true d e = inl (held-negative z d e)
     by-tests false false d e =
         let p = past-range z d e in
-        subst (λ (x : ℤ). (held x ≡ Held.Stray) ⊎ Holds x) (sym (p .1)) (past-cases (p .0) (p .2))
+        subst (λ (x : ℤ). (held x ≡ Held.Stray) ⊎ HoldsItem x) (sym (p .1)) (past-cases (p .0) (p .2))
 
 holds-item : (z : ℤ) (i : Item) → held z ≡ Held.Item i → (cellOf i ≡ z) × Ranged i
 holds-item z i e = ⊎-elim none some (holds-cases z)
@@ -232,7 +232,7 @@ holds-item z i e = ⊎-elim none some (holds-cases z)
         let clash : _≡_ {A = ℕ} 0 1 = cc in
         absurd (omega arith)
 
-    some : Holds z → (cellOf i ≡ z) × Ranged i
+    some : HoldsItem z → (cellOf i ≡ z) × Ranged i
     some p =
         let q : Held.Item (p .0) ≡ Held.Item i = sym (p .1) ∙ e in
         let j : p .0 ≡ i = cc in

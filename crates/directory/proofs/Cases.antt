@@ -17,21 +17,21 @@ use Rattle.tables.specs.declared.Laid.{Laid}
 use Rattle.tables.specs.Layout.{Owes}
 use Rattle.plan_records.specs.declared.Decoded.{Decoded}
 use Rattle.plan_records.specs.declared.Operator.{Operator}
-use Rattle.plans.specs.declared.widths.Operands.{Operands}
-use Rattle.plans.specs.declared.widths.Operands.the-variants.{None, Of}
+use Rattle.plans.specs.declared.widths.TableOperands.{TableOperands}
+use Rattle.plans.specs.declared.widths.TableOperands.the-variants.{None, Of}
 use Rattle.plans.specs.Accepted.{Turn}
 use Rattle.plan_records.specs.Decoded.{operatorOf}
 use Rattle.theorems.specs.PlanRead.{widthsOf}
 use Rattle.plans.specs.Widths as Widths
 use Rattle.plans.specs.Widths.{tablesOf}
 use Rattle.plans.proofs.Callers.{no-table, turn-fitting}
-use Rattle.directory.specs.Directory.{widthsIn, Listed}
-use Rattle.directory.specs.Sound.{Stands, wide, madeOf, madeWidth, SoundOf, Sound, Served}
+use Rattle.directory.specs.Directory.{widthsIn, ListedTables}
+use Rattle.directory.specs.Sound.{TableStands, wide, madeOf, madeWidth, SoundOf, SoundOperator, Served}
 use Rattle.directory.proofs.Entries.{length-widths, width-of}
 
 module _ (o k : Operator) (e : o ≡ k) where
-  pub sound-case : (plan dir : List ℕ) (n : ℕ) → Sound plan dir n o → Sound plan dir n k
-  sound-case plan dir n h = subst (Sound plan dir n) e h
+  pub sound-case : (plan dir : List ℕ) (n : ℕ) → SoundOperator plan dir n o → SoundOperator plan dir n k
+  sound-case plan dir n h = subst (SoundOperator plan dir n) e h
 
   pub owes-case :
       (room at : ℕ) (plan dir : List ℕ) (w : World) (ts : List Table) (xs ys : List ℤ) (r : Laid) →
@@ -40,7 +40,7 @@ module _ (o k : Operator) (e : o ≡ k) where
   owes-case room at plan dir w ts xs ys r h =
       subst (λ (q : Operator). Owes room at (madeWidth dir q) (make w (operatorOf plan q) ts) xs ys r) (sym e) h
 
-pub listed : (dir : List ℕ) (n top t : ℕ) → Listed dir n top → t < n → Stands dir top t
+pub listed : (dir : List ℕ) (n top t : ℕ) → ListedTables dir n top → t < n → TableStands dir top t
 listed dir n top t l h =
     record {
       there = omega (arith, l .long, l .few);
@@ -51,12 +51,13 @@ listed dir n top t l h =
 
 -- the tables that an operator names stand
 module _ (dir : List ℕ) where
-  abbrev Known : Operands → Type 0
+  abbrev Known : TableOperands → Type 0
   Known None = Unit {0}
   Known (Of t u) = (3 * t + 3 ≤ length dir) × (3 * u + 3 ≤ length dir) × (wide dir t ≤ 6) × (wide dir u ≤ 6)
 
   known :
-      (plan : List ℕ) (n top : ℕ) (o : Operator) (q : Operands) → Listed dir n top → SoundOf plan dir n o q → Known q
+      (plan : List ℕ) (n top : ℕ) (o : Operator) (q : TableOperands) → ListedTables dir n top → SoundOf plan dir n o q
+      → Known q
   unfolding SoundOf
   known plan n top o None l s = tt
   known plan n top o (Of t u) l s =
@@ -64,9 +65,9 @@ module _ (dir : List ℕ) where
       let b = listed dir n top u l (s .1) in
       (a .there, b .there, a .high, b .high)
 
-  module _ (o : Operator) (q : Operands) (e : q ≡ tablesOf o) where
+  module _ (o : Operator) (q : TableOperands) (e : q ≡ tablesOf o) where
     pub named-stand : Served dir o → (t u : ℕ) → q ≡ Of t u → Known (Of t u)
-    unfolding Served Sound
+    unfolding Served SoundOperator
     named-stand s t u k = subst Known (sym e ∙ k) (known (s .0) (s .1) (s .2) o (tablesOf o) (s .3) (s .4))
 
     pub made-none : q ≡ None → 1 ≡ madeWidth dir o
@@ -87,7 +88,7 @@ module _ (plan dir : List ℕ) (n : ℕ) (before rest : List Placed) (at : ℕ) 
   number : length (widthsOf before) ≡ n
   number = sym (ap length widths) ∙ length-widths dir n
 
-  sound-of : (q : Operands) → tablesOf (f .operator) ≡ q → SoundOf plan dir n (f .operator) q ×
+  sound-of : (q : TableOperands) → tablesOf (f .operator) ≡ q → SoundOf plan dir n (f .operator) q ×
       (madeOf dir (f .operator) q ≡ k .width)
   unfolding SoundOf madeOf
   sound-of None e = (tt, sym (no-table plan (widthsOf before) (f .operator) (k .width) (k .stands) (k .fits) e))
@@ -99,6 +100,6 @@ module _ (plan dir : List ℕ) (n : ℕ) (before rest : List Placed) (at : ℕ) 
         ap₂ (Widths.madeWidth (f .operator)) (sym (width-is t a)) (sym (width-is u b)) ∙ sym (g .made),
       )
 
-  pub turn-sound : Sound plan dir n (f .operator) × (madeWidth dir (f .operator) ≡ k .width)
-  unfolding Sound madeWidth
+  pub turn-sound : SoundOperator plan dir n (f .operator) × (madeWidth dir (f .operator) ≡ k .width)
+  unfolding SoundOperator madeWidth
   turn-sound = sound-of (tablesOf (f .operator)) refl

@@ -27,7 +27,7 @@ use Rattle.meaning.specs.Operators.{Table, tableOf}
 use Rattle.tables.specs.declared.Stand.{Stand}
 use Rattle.tables.specs.declared.Laid.the-variants.{Rows}
 use Rattle.tables.specs.Layout.{tableAt, Inside, Owes}
-use Rattle.directory.specs.Directory.{standAt, stand, entered, tablesIn, widthsIn, Listed, EndToEnd, Entry}
+use Rattle.directory.specs.Directory.{standAt, stand, entered, tablesIn, widthsIn, ListedTables, EndToEnd, Entry}
 
 -- a member of a list that grew by one
 module _ {A : Type 0} (xs : List A) (x d : A) where
@@ -154,7 +154,7 @@ gather-more f (y ∷ xs) x = ap (f y ++_) (gather-more f xs x) ∙ sym (append-a
 
 module _ (room at w k : ℕ) (made : Attempt Table) (xs ys : List ℤ) (dir : List ℕ) (n : ℕ)
     (inside : room ≤ length xs) (o : Owes room at w made xs ys (Rows k)) (few : n < 512) (low : 1 ≤ w) (high : w ≤ 6)
-    (l : Listed dir n at) where
+    (l : ListedTables dir n at) where
   s : Stand
   s = stand at k w
 
@@ -174,7 +174,7 @@ module _ (room at w k : ℕ) (made : Attempt Table) (xs ys : List ℤ) (dir : Li
       (subst P (sym (stand-entered dir n s there)) new))
       (below-or t n (omega arith))
 
-  listed-more : Listed (entered dir n s) (n + 1) (at + k * w)
+  listed-more : ListedTables (entered dir n s) (n + 1) (at + k * w)
   unfolding s Inside
   listed-more =
       record {

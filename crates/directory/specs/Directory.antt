@@ -5,7 +5,7 @@
 --     entered dir t s          the directory with table t at s
 --     tablesIn xs dir n        the first n tables, as they stand in the cells xs
 --     widthsIn dir n           their widths
---     Listed dir n top         the first n tables stand below cell `top`, and are 1 to 6 wide
+--     ListedTables dir n top   the first n tables stand below cell `top`, and are 1 to 6 wide
 --     EndToEnd xs dir n top    the cells below `top` are those of the first n tables, one after another
 --     Entry room at w k made xs ys dir n    what the directory says once an operator has laid its table behind those
 --                              that are listed, and it is entered
@@ -39,7 +39,7 @@ widthsIn dir zero = []
 widthsIn dir (suc n) = widthsIn dir n ++ (standAt dir n .width ∷ [])
 
 -- there is an entry for each of 512 tables
-pub record Listed (dir : List ℕ) (n top : ℕ) : Type 0 where
+pub record ListedTables (dir : List ℕ) (n top : ℕ) : Type 0 where
   pub few : n ≤ 512
   pub long : length dir ≡ 1536
   pub inside : (t : ℕ) → t < n → Inside top (standAt dir t)
@@ -56,6 +56,6 @@ pub record Entry (room at w k : ℕ) (made : Attempt Table) (xs ys : List ℤ) (
   pub long : length ys ≡ length xs
   pub tables : tablesIn ys (entered dir n (stand at k w)) (n + 1) ≡ tablesIn xs dir n ++ (table ∷ [])
   pub widths : widthsIn (entered dir n (stand at k w)) (n + 1) ≡ widthsIn dir n ++ (w ∷ [])
-  pub listed : Listed (entered dir n (stand at k w)) (n + 1) (at + k * w)
+  pub listed : ListedTables (entered dir n (stand at k w)) (n + 1) (at + k * w)
   pub newest : standAt (entered dir n (stand at k w)) n ≡ stand at k w
   pub ends : EndToEnd xs dir n at → EndToEnd ys (entered dir n (stand at k w)) (n + 1) (at + k * w)

@@ -5,7 +5,7 @@ ghost use lib.ListN.{length};
 ghost use Rattle.directory.specs.Directory.{standAt, entered};
 ghost use Rattle.directory.specs.Sound.{madeWidth, Served};
 use plan_records::Operator;
-use plans::widths::Operands;
+use plans::widths::TableOperands;
 use tables::Stand;
 
 // Where table t stands.
@@ -45,7 +45,7 @@ pub fn width(directory: &[usize], operator: Operator) -> usize
     ensures { λ r. ⌜ r ≡ madeWidth (now (directory .entry)) operator ⌝ }
 {
     let named = plans::widths::tables(operator);
-    let Operands::Of(t, u) = named else {
+    let TableOperands::Of(t, u) = named else {
         return 1;
     };
     plans::widths::made_width(operator, wide(directory, t), wide(directory, u))

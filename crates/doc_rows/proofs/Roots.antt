@@ -73,23 +73,23 @@ module _ (c : Catalogue) where
   roots-skip r n h = rw (ne-eqb (c .level r) 0 h)
 
   -- of n ranks from r on
-  abbrev Ranked : ℕ → ℕ → ℕ → Type 0
-  Ranked n r v = (r ≤ v) × (v < r + n) × (c .level v ≡ 0)
+  abbrev RankedBelow : ℕ → ℕ → ℕ → Type 0
+  RankedBelow n r v = (r ≤ v) × (v < r + n) × (c .level v ≡ 0)
 
-  wider : (n r v : ℕ) → Ranked n (suc r) v → Ranked (suc n) r v
+  wider : (n r v : ℕ) → RankedBelow n (suc r) v → RankedBelow (suc n) r v
   wider n r v h = (omega arith, omega arith, h .2)
 
-  right-from : (n r k v : ℕ) → member (rootsFrom c r n) k ≡ gives v → Ranked n r v
+  right-from : (n r k v : ℕ) → member (rootsFrom c r n) k ≡ gives v → RankedBelow n r v
   right-from zero r k v e = absurd (member-none k v (ap (λ (xs : List ℕ). member xs k) (sym (roots-none r)) ∙ e))
   right-from (suc n) r k v e = go (right-from n (suc r)) (ℕ-discrete (c .level r) 0)
     where
-      take : ((j w : ℕ) → member (rootsFrom c (suc r) n) j ≡ gives w → Ranked n (suc r) w) → c .level r ≡ 0
-          → (r ≡ v) ⊎ ((j : ℕ) × (k ≡ suc j) × (member (rootsFrom c (suc r) n) j ≡ gives v)) → Ranked (suc n) r v
+      take : ((j w : ℕ) → member (rootsFrom c (suc r) n) j ≡ gives w → RankedBelow n (suc r) w) → c .level r ≡ 0
+          → (r ≡ v) ⊎ ((j : ℕ) × (k ≡ suc j) × (member (rootsFrom c (suc r) n) j ≡ gives v)) → RankedBelow (suc n) r v
       take ih h (inl s) = (omega arith, omega arith, ap (c .level) (sym s) ∙ h)
       take ih h (inr s) = wider n r v (ih (s .0) v (s .2))
 
-      go : ((j w : ℕ) → member (rootsFrom c (suc r) n) j ≡ gives w → Ranked n (suc r) w) → Dec (c .level r ≡ 0)
-          → Ranked (suc n) r v
+      go : ((j w : ℕ) → member (rootsFrom c (suc r) n) j ≡ gives w → RankedBelow n (suc r) w) → Dec (c .level r ≡ 0)
+          → RankedBelow (suc n) r v
       go ih (yes h) =
           take ih h
           (member-cons r (rootsFrom c (suc r) n) k v (ap (λ (xs : List ℕ). member xs k) (sym (roots-take r n h)) ∙ e))
@@ -100,11 +100,11 @@ module _ (c : Catalogue) where
       let h = right-from (c .rows) 0 k v (ap (λ (xs : List ℕ). member xs k) (sym (roots-from c)) ∙ e) in
       (omega arith, h .2)
 
-  whole-from : (n r v : ℕ) → Ranked n r v → (k : ℕ) × (member (rootsFrom c r n) k ≡ gives v)
+  whole-from : (n r v : ℕ) → RankedBelow n r v → (k : ℕ) × (member (rootsFrom c r n) k ≡ gives v)
   whole-from zero r v h = absurd (omega arith)
   whole-from (suc n) r v h = go (whole-from n (suc r) v) (ℕ-discrete (c .level r) 0) (decLt r v)
     where
-      go : (Ranked n (suc r) v → (k : ℕ) × (member (rootsFrom c (suc r) n) k ≡ gives v))
+      go : (RankedBelow n (suc r) v → (k : ℕ) × (member (rootsFrom c (suc r) n) k ≡ gives v))
           → Dec (c .level r ≡ 0) → Dec (r < v) → (k : ℕ) × (member (rootsFrom c r (suc n)) k ≡ gives v)
       go ih (yes z) (yes l) =
           let s = ih (l, omega arith, h .2) in

@@ -4,7 +4,7 @@
 --     rows-next      a row that is there decides, and then the rows after it
 --     unless-reads   a reading that goes on only where a test holds
 --     own            what a row's own check gives
---     Passed ..      what the row checks from row r on give
+--     PassedRows ..   what the row checks from row r on give
 --     passed         they give it
 use Prim.Native.Nat.{ℕ, zero, suc, _+_, _*_, _≤_, _<_}
 use native.Mathlib.Decide.{decLe, decLt}
@@ -105,7 +105,7 @@ row doc r most n e =
     (leb-true _ _ (t .0), own (catalogueOf doc n) r most (s .1))
 
 -- what the checks of the rows from r on give, where n rows are there
-pub record Passed (doc : List ℕ) (left r most n : ℕ) : Type 0 where
+pub record PassedRows (doc : List ℕ) (left r most n : ℕ) : Type 0 where
   pub from : r ≤ n
   pub few : n ≤ r + left
   pub whole : 10 * n ≡ length doc
@@ -114,7 +114,7 @@ pub record Passed (doc : List ℕ) (left r most n : ℕ) : Type 0 where
 
 passed-end : (doc : List ℕ) (left r most n : ℕ) → 10 * r ≤ length doc → length doc ≤ 10 * r
     → rowsSound left doc r most ≡ reads n
-    → Passed doc left r most n
+    → PassedRows doc left r most n
 passed-end doc left r most n h k e =
     let same : r ≡ n = cc (rows-end doc r most left k) in
     record {
@@ -129,14 +129,14 @@ module _ (doc : List ℕ) (left r most n : ℕ) (one : rowSound doc r most ≡ t
   abbrev next : ℕ
   next = suc (byteAt doc (10 * r + 4))
 
-  passed-tail : Passed doc left (suc r) next n → (v : ℕ) → Dec (r < v) → r ≤ v → suc v < n
+  passed-tail : PassedRows doc left (suc r) next n → (v : ℕ) → Dec (r < v) → r ≤ v → suc v < n
       → rowSound doc (suc v) (suc (byteAt doc (10 * v + 4))) ≡ true
   passed-tail p v (yes l) h k = p .tail v l k
   passed-tail p v (no l) h k =
       let same : r ≡ v = omega arith in
       subst (λ (w : ℕ). rowSound doc (suc w) (suc (byteAt doc (10 * w + 4))) ≡ true) same (p .head (omega arith))
 
-  passed-more : Passed doc left (suc r) next n → Passed doc (suc left) r most n
+  passed-more : PassedRows doc left (suc r) next n → PassedRows doc (suc left) r most n
   passed-more p =
       record {
         from = omega arith;
@@ -147,16 +147,16 @@ module _ (doc : List ℕ) (left r most n : ℕ) (one : rowSound doc r most ≡ t
       }
 
 pub passed : (left : ℕ) (doc : List ℕ) (r most n : ℕ) → 10 * r ≤ length doc → rowsSound left doc r most ≡ reads n
-    → Passed doc left r most n
+    → PassedRows doc left r most n
 passed zero doc r most n h e = go (decLe (length doc) (10 * r))
   where
-    go : Dec (length doc ≤ 10 * r) → Passed doc zero r most n
+    go : Dec (length doc ≤ 10 * r) → PassedRows doc zero r most n
     go (yes k) = passed-end doc zero r most n h k e
     go (no k) = let z : _≡_ {A = ℕ} 0 1 = cc (rows-over doc r most (omega arith)) in absurd (omega arith)
 passed (suc left) doc r most n h e = go (λ m k d. passed left doc (suc r) m n k d) (decLe (length doc) (10 * r))
   where
-    go : ((m : ℕ) → 10 * suc r ≤ length doc → rowsSound left doc (suc r) m ≡ reads n → Passed doc left (suc r) m n)
-        → Dec (length doc ≤ 10 * r) → Passed doc (suc left) r most n
+    go : ((m : ℕ) → 10 * suc r ≤ length doc → rowsSound left doc (suc r) m ≡ reads n → PassedRows doc left (suc r) m n)
+        → Dec (length doc ≤ 10 * r) → PassedRows doc (suc left) r most n
     go ih (yes k) = passed-end doc (suc left) r most n h k e
     go ih (no k) =
         let next = suc (byteAt doc (10 * r + 4)) in

@@ -59,11 +59,11 @@ module _ (c : Catalogue) (l : ℕ) where
           let there : r + deeper c l r (suc n) ≡ suc r + deeper c l (suc r) n = omega arith in
           omega (arith, ap (c .level) there, ih (omega arith))
 
-abbrev pub Exact : Catalogue → ℕ → ℕ → Type 0
-Exact c v rest = c .size v ≡ deeper c (c .level v) (suc v) rest
+abbrev pub ExactSizes : Catalogue → ℕ → ℕ → Type 0
+ExactSizes c v rest = c .size v ≡ deeper c (c .level v) (suc v) rest
 
 pub sizes : (n : ℕ) (c : Catalogue) (r : ℕ) (d : Catalogue) → sizesExact c r n ≡ reads d
-    → (d ≡ c) × ((v : ℕ) → r ≤ v → v < r + n → Exact c v (r + n - suc v))
+    → (d ≡ c) × ((v : ℕ) → r ≤ v → v < r + n → ExactSizes c v (r + n - suc v))
 unfolding sizesExact
 sizes zero c r d e = (cc, λ v h k. absurd (omega arith))
 sizes (suc n) c r d e =
@@ -71,12 +71,12 @@ sizes (suc n) c r d e =
     let ih = sizes n c (suc r) d (s .1) in
     (ih .0, λ v h k. go (ih .1) (eqb-true _ _ (s .0)) v h k (decLt r v))
   where
-    go : ((v : ℕ) → suc r ≤ v → v < suc r + n → Exact c v (suc r + n - suc v)) → Exact c r n
-        → (v : ℕ) → r ≤ v → v < r + suc n → Dec (r < v) → Exact c v (r + suc n - suc v)
+    go : ((v : ℕ) → suc r ≤ v → v < suc r + n → ExactSizes c v (suc r + n - suc v)) → ExactSizes c r n
+        → (v : ℕ) → r ≤ v → v < r + suc n → Dec (r < v) → ExactSizes c v (r + suc n - suc v)
     go later here v h k (yes l) =
         let same : suc r + n - suc v ≡ r + suc n - suc v = omega arith in
-        subst (Exact c v) same (later v l (omega arith))
+        subst (ExactSizes c v) same (later v l (omega arith))
     go later here v h k (no l) =
         let same : r ≡ v = omega arith in
         let rest : n ≡ r + suc n - suc v = omega arith in
-        subst (Exact c v) rest (subst (λ (w : ℕ). Exact c w n) same here)
+        subst (ExactSizes c v) rest (subst (λ (w : ℕ). ExactSizes c w n) same here)

@@ -20,8 +20,8 @@ use Rattle.meaning.specs.Catalogue.{Catalogue, catalogueOf, deeper, rowsSound, 
 use Rattle.doc_rows.specs.Fields.{sizeAt, levelAt}
 use Rattle.doc_rows.specs.Nested.{Nested}
 use Rattle.doc_rows.specs.Sound.{Own, Sound}
-use Rattle.doc_rows.proofs.Rows.{Passed, passed, row}
-use Rattle.doc_rows.proofs.Sizes.{Exact, sizes, deeper-few, deeper-in, deeper-end}
+use Rattle.doc_rows.proofs.Rows.{PassedRows, passed, row}
+use Rattle.doc_rows.proofs.Sizes.{ExactSizes, sizes, deeper-few, deeper-in, deeper-end}
 
 signed-ranged : (u : ℕ) → inRange (signed 0x8000_0000 u) ≡ true
 unfolding signed inRange
@@ -40,7 +40,7 @@ ranged doc at = signed-ranged (word doc at 4)
 record Rows (c : Catalogue) : Type 0 where
   first : 0 < c .rows → Own c 0 0
   later : (v : ℕ) → suc v < c .rows → Own c (suc v) (suc (c .level v))
-  exact : (v : ℕ) → v < c .rows → Exact c v (c .rows - suc v)
+  exact : (v : ℕ) → v < c .rows → ExactSizes c v (c .rows - suc v)
 
 module _ (c : Catalogue) (rows : Rows c) where
   owned : (v : ℕ) → v < c .rows → (most : ℕ) × Own c v most
@@ -84,15 +84,15 @@ unfolding reading
 reading-reads (refuses n p) f b e = let z : _≡_ {A = ℕ} 0 1 = cc in absurd (omega arith)
 reading-reads (reads a) f b e = (a, refl, e)
 
-rows-of : (doc : List ℕ) (n : ℕ) → Passed doc 2048 0 0 n
-    → ((v : ℕ) → 0 ≤ v → v < 0 + n → Exact (catalogueOf doc n) v (0 + n - suc v))
+rows-of : (doc : List ℕ) (n : ℕ) → PassedRows doc 2048 0 0 n
+    → ((v : ℕ) → 0 ≤ v → v < 0 + n → ExactSizes (catalogueOf doc n) v (0 + n - suc v))
     → Rows (catalogueOf doc n)
 unfolding catalogueOf
 rows-of doc n p exact =
     record {
       first = λ h. row doc 0 0 n (p .head h) .1;
       later = λ v h. row doc (suc v) (suc (byteAt doc (10 * v + 4))) n (p .tail v (omega arith) h) .1;
-      exact = λ v h. subst (Exact (catalogueOf doc n) v) (rest v) (exact v (omega arith) (omega arith));
+      exact = λ v h. subst (ExactSizes (catalogueOf doc n) v) (rest v) (exact v (omega arith) (omega arith));
     }
   where
     rest : (v : ℕ) → 0 + n - suc v ≡ n - suc v

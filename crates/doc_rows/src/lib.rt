@@ -9,7 +9,7 @@ ghost use Rattle.doc_rows.specs.Fields;
 ghost use Rattle.doc_rows.specs.Answers;
 
 // A root, where there is one.
-pub enum Found {
+pub enum FoundRoot {
     At(Rank),
     Nothing,
 }
@@ -47,7 +47,7 @@ pub fn prop(doc: &[u8], r: Rank) -> i32
 }
 
 // The root of fragment k, counted from 1.
-pub fn root(doc: &[u8], rows: usize, k: usize) -> Found
+pub fn root(doc: &[u8], rows: usize, k: usize) -> FoundRoot
     requires { ⌜ (10 * rows ≤ length (now doc)) × (1 ≤ k) ⌝ }
     ensures { λ f. ⌜ Answers.found f
         ≡ World.member (World.roots (Catalogue.catalogueOf (now (doc .entry)) rows)) (k - 1) ⌝ }
@@ -60,12 +60,12 @@ pub fn root(doc: &[u8], rows: usize, k: usize) -> Found
             continue;
         }
         if left == 0 {
-            return Found::At(Rank(r));
+            return FoundRoot::At(Rank(r));
         }
         left -= 1;
         r += 1;
     }
-    Found::Nothing
+    FoundRoot::Nothing
 }
 
 // The root of the fragment that the row of rank r is in: the last row of level 0 up to it.

@@ -10,7 +10,7 @@ ghost use Rattle.evaluator.specs.Answers.{answered, refusing, unsounding
 // The answer: the number of items and their count; or a refusal with its place: 1 to 3 of the query, 4 of the
 // catalogue, 6 and 7 of the work.
 pub enum Evaluated {
-    Items { number: usize, count: usize },
+    Items { items: usize, count: usize },
     Unsound(usize),
     Excess(usize),
     Unbound(usize),
@@ -25,10 +25,7 @@ fn refused(checked: queries::Checked) -> Evaluated
 {
     match checked {
         // never: an accepted query is not refused
-        queries::Checked::Records(_) => Evaluated::Items {
-            number: 0,
-            count: 0,
-        },
+        queries::Checked::Records(_) => Evaluated::Items { items: 0, count: 0 },
         queries::Checked::Unsound(place) => Evaluated::Unsound(place),
         queries::Checked::Excess(place) => Evaluated::Excess(place),
         queries::Checked::Unbound(place) => Evaluated::Unbound(place),
@@ -41,10 +38,7 @@ fn unsound(checked: catalogue::Checked) -> Evaluated
 {
     match checked {
         // never: an accepted catalogue is not refused
-        catalogue::Checked::Rows(_) => Evaluated::Items {
-            number: 0,
-            count: 0,
-        },
+        catalogue::Checked::Rows(_) => Evaluated::Items { items: 0, count: 0 },
         catalogue::Checked::Unsound(place) => Evaluated::Catalogue(place),
     }
 }
@@ -59,7 +53,7 @@ fn concluded(answer: Stood) -> Evaluated
             count,
             next: _,
         } => Evaluated::Items {
-            number: length,
+            items: length,
             count,
         },
         Stood::Full(place) => Evaluated::Full(place),

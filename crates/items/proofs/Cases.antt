@@ -6,7 +6,7 @@
 --     value-is, truth-is         the value, the truth of the same item
 --     text-..                    the value of a node
 --     truth-none, truth-first    truth of no items, and of a first one
---     root-is, root-none         the root of a fragment; its rank is below the number of rows
+--     root-is, root-none   the root of a fragment; its rank is below the integerTried of rows
 use Prim.Native.Nat.{ℕ, zero, suc, _-_, _≤_, _<_}
 use mathlib.Core.Path.{_≡_, refl, ap, subst}
 use mathlib.Core.List.{List, [], _∷_}
@@ -33,21 +33,22 @@ use Rattle.meaning.specs.Catalogue.{Catalogue, catalogueOf}
 use Rattle.meaning.specs.World as World
 use Rattle.meaning.specs.World.{ranged, integerOf, valueIn, truthFrom, roots, member, rootOf}
 use Rattle.doc_rows.specs.Fields.{kindAt, propAt}
-use Rattle.items.specs.Answers.{number, holding, textValue, truthOf}
+use Rattle.items.specs.Answers.{integerTried, holding, textValue, truthOf}
 
-pub number-ranged : (z : ℤ) → number (numberOf z) ≡ ranged z
-unfolding number numberOf ranged provided
+pub number-ranged : (z : ℤ) → integerTried (numberOf z) ≡ ranged z
+unfolding integerTried numberOf ranged provided
 number-ranged z = by-test (inRange z)
   where
-    by-test : (t : Bool) → number (cond t (Number.Is z) Number.Refused) ≡ provided t (gives z)
+    by-test : (t : Bool) → integerTried (cond t (Number.Is z) Number.Refused) ≡ provided t (gives z)
     by-test true = refl
     by-test false = refl
 
-pub number-quotient : (x y : ℤ) → number (quotientOf x y) ≡ World.quotient x y
-unfolding number quotientOf World.quotient provided
+pub number-quotient : (x y : ℤ) → integerTried (quotientOf x y) ≡ World.quotient x y
+unfolding integerTried quotientOf World.quotient provided
 number-quotient x y = by-test (same y (pos 0))
   where
-    by-test : (t : Bool) → number (cond t Number.Refused (numberOf (quotZ x y))) ≡ provided (not t) (ranged (quotZ x y))
+    by-test : (t : Bool) → integerTried (cond t Number.Refused (numberOf (quotZ x y)))
+        ≡ provided (not t) (ranged (quotZ x y))
     by-test true = refl
     by-test false = number-ranged (quotZ x y)
 

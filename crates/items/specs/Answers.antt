@@ -1,7 +1,7 @@
 -- What this crate's functions answer, in the words of the definitions.
 --     tried t           a cell, or that it fails
 --     judged j          a truth value, or that it fails
---     number n          an integer as a cell, or that there is none
+--     integerTried n    an integer as a cell, or that there is none
 --     holding i         what an item's cell holds
 --     textValue c r     the value of the node of rank r
 --     truthOf i alone   truth of a condition whose first item is i, and whose only one where `alone`
@@ -31,9 +31,9 @@ unfoldable pub judged : Judged → Attempt Bool
 judged (Judged.Is b) = gives b
 judged Judged.Fails = fails
 
-unfoldable pub number : Number → Attempt ℤ
-number (Number.Is z) = gives z
-number Number.Refused = fails
+unfoldable pub integerTried : Number → Attempt ℤ
+integerTried (Number.Is z) = gives z
+integerTried Number.Refused = fails
 
 abbrev pub holding : Item → Held
 holding i = Held.Item i

@@ -26,7 +26,7 @@ pub enum Judged {
 
 // The integer of an item.
 fn integer_in(item: Item) -> Number
-    ensures { λ r. ⌜ Answers.number r ≡ World.integerIn (Answers.holding item) ⌝ }
+    ensures { λ r. ⌜ Answers.integerTried r ≡ World.integerIn (Answers.holding item) ⌝ }
 {
     match item {
         Item::Integer(z) => Number::Is(z),
@@ -37,7 +37,7 @@ fn integer_in(item: Item) -> Number
 
 // The integer that a cell holds.
 fn integer_of(a: i64) -> Number
-    ensures { λ r. ⌜ Answers.number r ≡ World.integerOf a ⌝ }
+    ensures { λ r. ⌜ Answers.integerTried r ≡ World.integerOf a ⌝ }
 {
     let held = cells::item_of(a);
     let Held::Item(item) = held else {
@@ -48,7 +48,7 @@ fn integer_of(a: i64) -> Number
 
 // An integer as a cell.
 fn given(n: Number) -> Tried
-    ensures { λ r. ⌜ Answers.tried r ≡ Answers.number n ⌝ }
+    ensures { λ r. ⌜ Answers.tried r ≡ Answers.integerTried n ⌝ }
 {
     match n {
         Number::Is(z) => Tried::Gives(z as i64),
@@ -129,7 +129,7 @@ pub fn root(doc: &[u8], rows: usize, k: usize) -> Tried
     ensures { λ t. ⌜ Answers.tried t ≡ World.rootOf (catalogueOf (now (doc .entry)) rows) k ⌝ }
 {
     let found = doc_rows::root(doc, rows, k);
-    let doc_rows::Found::At(r) = found else {
+    let doc_rows::FoundRoot::At(r) = found else {
         return Tried::Fails;
     };
     Tried::Gives(cells::node_cell(r))

@@ -114,7 +114,7 @@ module _ {A : Type 0} (c : A → ℕ) where
       (λ d.
       let s = some (within c (c r) t) (sym (any-filled c (c r) t) ∙ d) in
       record {
-        number = c r;
+        shared = c r;
         first = r;
         second = s .0;
         others = s .1;
@@ -124,20 +124,20 @@ module _ {A : Type 0} (c : A → ℕ) where
     where
       more-of : Twice c t → Twice c (r ∷ t)
       more-of w =
-          by-cases (eqb (w .number) (c r))
+          by-cases (eqb (w .shared) (c r))
           (λ e.
           record {
-            number = w .number;
+            shared = w .shared;
             first = r;
             second = w .first;
             others = w .second ∷ w .others;
-            here = filter-yes (λ x. eqb (w .number) (c x)) r t e ∙ ap (λ (xs : List A). r ∷ xs) (w .here);
+            here = filter-yes (λ x. eqb (w .shared) (c x)) r t e ∙ ap (λ (xs : List A). r ∷ xs) (w .here);
           })
           (λ e.
           record {
-            number = w .number;
+            shared = w .shared;
             first = w .first;
             second = w .second;
             others = w .others;
-            here = filter-no (λ x. eqb (w .number) (c x)) r t e ∙ w .here;
+            here = filter-no (λ x. eqb (w .shared) (c x)) r t e ∙ w .here;
           })

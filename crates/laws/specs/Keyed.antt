@@ -67,11 +67,11 @@ pub data AtMostOne {A : Type 0} (c : A → ℕ) (n : ℕ) (xs : List A) : Type 0
   present : (x : A) → n ≡ c x → xs ≡ x ∷ [] → AtMostOne c n xs
 
 pub record Twice {A : Type 0} (c : A → ℕ) (t : List A) : Type 0 where
-  pub number : ℕ
+  pub shared : ℕ
   pub first : A
   pub second : A
   pub others : List A
-  pub here : within c number t ≡ first ∷ second ∷ others
+  pub here : within c shared t ≡ first ∷ second ∷ others
 
 unfoldable pub filled : {A : Type 0} → List A → Bool
 filled [] = false

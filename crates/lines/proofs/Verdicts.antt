@@ -21,7 +21,7 @@ use Rattle.lines.specs.declared.Told.{Told}
 use Rattle.lines.specs.declared.Told.the-variants.{Gave, Refused}
 use Rattle.lines.specs.declared.Verdict.the-variants.{Agree, Differ, Room}
 use Rattle.lines.specs.Text.{refusedWith, agree, verdict}
-use Rattle.lines.specs.Placed.{Stands}
+use Rattle.lines.specs.Placed.{GaveStands}
 
 unfoldable pub restSame : (xs ys : List ℤ) (n i : ℕ) → Bool
 restSame xs ys n i = sameRow (take (n - i) (drop i xs)) (take (n - i) (drop i ys))
@@ -79,9 +79,9 @@ lengths-differ xs ys n m h k f = by-test (sameRow (take n xs) (take m ys)) refl
     by-test false e = e
 
 -- what both gave
-pub stands-gave : (l : ℕ) (t : Told) (n : ℕ) → t ≡ Gave n → Stands l t → n ≤ l
-unfolding Stands
-stands-gave l t n e h = subst (Stands l) e h
+pub stands-gave : (l : ℕ) (t : Told) (n : ℕ) → t ≡ Gave n → GaveStands l t → n ≤ l
+unfolding GaveStands
+stands-gave l t n e h = subst (GaveStands l) e h
 
 pub gave-alike : (xs ys : List ℤ) (n m : ℕ) (t : Told) → n ≡ m → t ≡ Gave m
     → sameRow (take n xs) (take n ys) ≡ agree (Gave n) xs t ys
@@ -89,7 +89,7 @@ unfolding agree
 gave-alike xs ys n m t e d =
     ap (λ (k : ℕ). sameRow (take n xs) (take k ys)) e ∙ sym (ap (λ (u : Told). agree (Gave n) xs u ys) d)
 
-pub gave-unlike : (xs ys : List ℤ) (n m : ℕ) (t : Told) → n ≤ length xs → Stands (length ys) t → (n ≡ m → ⊥)
+pub gave-unlike : (xs ys : List ℤ) (n m : ℕ) (t : Told) → n ≤ length xs → GaveStands (length ys) t → (n ≡ m → ⊥)
     → t ≡ Gave m
     → false ≡ agree (Gave n) xs t ys
 unfolding agree

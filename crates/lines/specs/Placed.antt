@@ -1,6 +1,6 @@
 -- Bytes put into a lent slice, one after another.
 --     Put entry exit at bytes end     `bytes` stand from `at` up to `end`, and nothing else is changed
---     Stands l t                      what was told to be given stands in a slice of length l
+--     GaveStands l t                  what was told to be given stands in a slice of length l
 --     roomFor t                       bytes that are enough for all lines
 use Prim.Native.Nat.{ℕ, _+_, _*_, _≤_}
 use mathlib.Core.Path.{_≡_}
@@ -15,9 +15,9 @@ pub record Put (entry exit : List ℕ) (at : ℕ) (bytes : List ℕ) (end : ℕ)
   pub ended : end ≡ at + length bytes
   pub fits : end ≤ length entry
 
-unfoldable pub Stands : ℕ → Told → Type 0
-Stands l (Gave n) = n ≤ l
-Stands l (Refused n p) = Unit {0}
+unfoldable pub GaveStands : ℕ → Told → Type 0
+GaveStands l (Gave n) = n ≤ l
+GaveStands l (Refused n p) = Unit {0}
 
 unfoldable pub roomFor : Told → ℕ
 roomFor (Gave n) = 32 * n + 128

@@ -8,7 +8,7 @@ ghost use Rattle.meaning.specs.Operators.{sameRow};
 ghost use Rattle.pen.specs.Penned.{Pens};
 ghost use Rattle.pen.specs.Decimal.{decimal};
 ghost use Rattle.lines.specs.Text;
-ghost use Rattle.lines.specs.Placed.{Stands};
+ghost use Rattle.lines.specs.Placed.{GaveStands};
 use crate::Told;
 use crate::Verdict;
 use cells::Held;
@@ -106,7 +106,7 @@ fn refused_with(number: usize, told: Told) -> bool
 
 // Whether both gave n items, and the same.
 fn gave_same(xs: &[i64], n: usize, told: Told, ys: &[i64]) -> bool
-    requires { ⌜ (n ≤ length (now xs)) × Stands (length (now ys)) told ⌝ }
+    requires { ⌜ (n ≤ length (now xs)) × GaveStands (length (now ys)) told ⌝ }
     ensures { λ r. ⌜ r ≡ Text.agree (Told.Gave n) (now (xs .entry)) told (now (ys .entry)) ⌝ }
 {
     match told {
@@ -117,7 +117,7 @@ fn gave_same(xs: &[i64], n: usize, told: Told, ys: &[i64]) -> bool
 
 // Whether both gave the same items, or both refused with the same number.
 fn agrees(ran: Told, xs: &[i64], evaluated: Told, ys: &[i64]) -> bool
-    requires { ⌜ Stands (length (now xs)) ran × Stands (length (now ys)) evaluated ⌝ }
+    requires { ⌜ GaveStands (length (now xs)) ran × GaveStands (length (now ys)) evaluated ⌝ }
     ensures { λ r. ⌜ r ≡ Text.agree ran (now (xs .entry)) evaluated (now (ys .entry)) ⌝ }
 {
     match ran {
@@ -128,7 +128,7 @@ fn agrees(ran: Told, xs: &[i64], evaluated: Told, ys: &[i64]) -> bool
 
 // No room where either gave 6; else whether they agree.
 pub fn verdict(ran: Told, xs: &[i64], evaluated: Told, ys: &[i64]) -> Verdict
-    requires { ⌜ Stands (length (now xs)) ran × Stands (length (now ys)) evaluated ⌝ }
+    requires { ⌜ GaveStands (length (now xs)) ran × GaveStands (length (now ys)) evaluated ⌝ }
     ensures { λ r. ⌜ r ≡ Text.verdict ran (now (xs .entry)) evaluated (now (ys .entry)) ⌝ }
 {
     if refused_with(6, ran) {

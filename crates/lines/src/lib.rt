@@ -8,7 +8,7 @@ ghost use Rattle.laws.specs.Rows.{rowsAt, laid};
 ghost use Rattle.meaning.specs.Operators;
 ghost use Rattle.pen.specs.Penned.{Pens};
 ghost use Rattle.lines.specs.Text;
-ghost use Rattle.lines.specs.Placed.{Put, Stands, roomFor};
+ghost use Rattle.lines.specs.Placed.{Put, GaveStands, roomFor};
 
 // What a call told: how many it gave, items or operators; or a refusal's number and place.
 pub enum Told {
@@ -25,7 +25,7 @@ pub enum Verdict {
 
 // Copies the items of the runner's last table, its column 2, so that the cells can be lent again. Each row is looked
 // at once.
-pub fn keep(work: &[i64], start: usize, rows: usize, kept: &mut [i64])
+pub fn copy_items(work: &[i64], start: usize, rows: usize, kept: &mut [i64])
     requires { ⌜ (start + rows * 3 ≤ length (now work)) × (rows ≤ length (now kept)) ⌝ }
     ensures { λ r. ⌜ now (kept .exit)
         ≡ laid (now (kept .entry)) 0 (Operators.column (rowsAt (now (work .entry)) start rows 3) 2) ⌝ }
@@ -50,7 +50,7 @@ fn put_refusal(text: &mut [u8], at: usize, number: usize, place: usize) -> usize
 
 // The number of items and each item, or the refusal.
 fn put_first(text: &mut [u8], at: usize, told: Told, cells: &[i64]) -> usize
-    requires { ⌜ (at + roomFor told < 2 ^ 64) × Stands (length (now cells)) told ⌝ }
+    requires { ⌜ (at + roomFor told < 2 ^ 64) × GaveStands (length (now cells)) told ⌝ }
     ensures { λ r. ⌜ Pens at (Text.firstLines told (now (cells .entry))) (now (text .entry)) (now (text .exit)) r
         × (r + 64 ≤ at + roomFor told) ⌝ }
 {
@@ -86,7 +86,7 @@ pub fn write(
     others: &[i64],
 ) -> usize
     requires { ⌜ (128 ≤ length (now text)) × (roomFor ran ≤ length (now text)) ⌝ }
-    requires { ⌜ Stands (length (now cells)) ran × Stands (length (now others)) evaluated ⌝ }
+    requires { ⌜ GaveStands (length (now cells)) ran × GaveStands (length (now others)) evaluated ⌝ }
     ensures { λ r. ⌜ Put (now (text .entry)) (now (text .exit)) 0
         (Text.text translated ran (now (cells .entry)) evaluated (now (others .entry))) r ⌝ }
 {

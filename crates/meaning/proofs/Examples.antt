@@ -4,7 +4,7 @@
 --     row size level kind prop          the bytes of a catalogue row
 --     Ask                               a question to the calls: a query's items, its plan's size, its run or its
 --                                       evaluation in so many lent cells
---     Told                              what the calls tell
+--     ToldAnswer                        what the calls tell
 --     told ask                          the calls' answers to a question
 --     examples                          the table: a question, and what must be told
 --     marked                            every question is told what the table says
@@ -95,31 +95,31 @@ pub data Ask : Type 0 where
   runOf : (query doc : List ℕ) (lent : ℕ) → Ask
   workOf : (query doc : List ℕ) (lent : ℕ) → Ask
 
-pub data Told : Type 0 where
-  items : List ℤ → Told
-  numbers : List ℕ → Told
-  refusal : ℕ → Told
+pub data ToldAnswer : Type 0 where
+  items : List ℤ → ToldAnswer
+  numbers : List ℕ → ToldAnswer
+  refusal : ℕ → ToldAnswer
 
 -- every third cell from column 2 on: the item column of a table of width 3
 itemColumn : ℕ → List ℤ → List ℤ
 itemColumn zero xs = []
 itemColumn (suc n) xs = getD xs 2 (pos 0) ∷ itemColumn n (drop 3 xs)
 
-evaluated : Calls.Outcome ℤ → Told
+evaluated : Calls.Outcome ℤ → ToldAnswer
 evaluated o = of (o .answer)
   where
-    of : Calls.Answer → Told
+    of : Calls.Answer → ToldAnswer
     of (Calls.gives ns) = items (take (getD ns 0 0) (o .left))
     of (Calls.refused n p) = refusal n
 
-ran : Calls.Outcome ℤ → Told
+ran : Calls.Outcome ℤ → ToldAnswer
 ran o = of (o .answer)
   where
-    of : Calls.Answer → Told
+    of : Calls.Answer → ToldAnswer
     of (Calls.gives ns) = items (itemColumn (getD ns 1 0) (drop (getD ns 0 0) (o .left)))
     of (Calls.refused n p) = refusal n
 
-answered : Calls.Answer → Told
+answered : Calls.Answer → ToldAnswer
 answered (Calls.gives ns) = numbers ns
 answered (Calls.refused n p) = refusal n
 
@@ -131,7 +131,7 @@ planBytes query = take (of (Calls.translateCall query 1000 .answer)) (Calls.tran
     of (Calls.gives ns) = getD ns 1 0
     of (Calls.refused n p) = 0
 
-unfoldable pub told : Ask → List Told
+unfoldable pub told : Ask → List ToldAnswer
 unfolding evaluated ran answered planBytes itemColumn integer boolean empty root variable sequence letting for choice
     function counting step row twoRoots harbours Lists.filter Lists.any Lists.all Lists.count Lists.firsts Lists.gather
     Lists.below Lists.sum Sorting.insert Sorting.sort Cell.cellOf Cell.inRange Cell.same Cell.before Cell.held
@@ -165,7 +165,7 @@ told (runOf query doc lent) = answered (Calls.runCall (planBytes query) doc lent
 told (workOf query doc lent) = answered (Calls.evaluateCall query doc lent .answer) ∷ []
 
 -- both engines tell the same
-both : Told → List Told
+both : ToldAnswer → List ToldAnswer
 both t = t ∷ t ∷ []
 
 -- The table
@@ -193,7 +193,7 @@ oneTwo = sequence (integer (pos 1)) (integer (pos 2))
 unfoldable pub nestedItems : List ℤ
 nestedItems = pos 1 ∷ pos 1 ∷ pos 10 ∷ pos 1 ∷ pos 20 ∷ pos 2 ∷ pos 2 ∷ pos 10 ∷ pos 2 ∷ pos 20 ∷ []
 
-examples : List (Ask × List Told)
+examples : List (Ask × List ToldAnswer)
 examples =
     (itemsOf nested [], both (items nestedItems))
     ∷ (itemsOf (function 4 (integer (negsuc 6)) (integer (pos 2))) [], both (items (negsuc 2 ∷ [])))
@@ -218,7 +218,7 @@ examples =
     ∷ (workOf latitudes harbours 3, refusal 6 ∷ [])
     ∷ []
 
-marked : map (λ (e : Ask × List Told). told (e .0)) examples ≡ map (λ (e : Ask × List Told). e .1) examples
+marked : map (λ (e : Ask × List ToldAnswer). told (e .0)) examples ≡ map (λ (e : Ask × List ToldAnswer). e .1) examples
 unfolding told examples nested latitudes byZero mixed oneTwo nestedItems both
 marked = refl
 

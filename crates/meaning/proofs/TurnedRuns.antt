@@ -18,22 +18,22 @@ use Rattle.meaning.specs.Plan.{Placed, planRead}
 use Rattle.meaning.specs.Operators.{itemsInOrder}
 use Rattle.meaning.specs.Run.{Filled, runningBy, turning}
 use Rattle.meaning.specs.Calls.{lastTable}
-use Rattle.meaning.proofs.Examples.{Told, items, refusal, told, planBytes, nested, nestedItems, latitudes}
+use Rattle.meaning.proofs.Examples.{ToldAnswer, items, refusal, told, planBytes, nested, nestedItems, latitudes}
 use Rattle.meaning.proofs.Examples.{harbours}
 
-itemsOrRefusal : Work Filled → Told
+itemsOrRefusal : Work Filled → ToldAnswer
 itemsOrRefusal (full p) = refusal 6
 itemsOrRefusal (failed p) = refusal 7
 itemsOrRefusal (done f) = items (itemsInOrder (lastTable (f .tables)))
 
 -- nothing is run where plan or catalogue is refused
-turns : Reading (List Placed) → Reading Catalogue → List Told
+turns : Reading (List Placed) → Reading Catalogue → List ToldAnswer
 turns (refuses n p) c = []
 turns (reads ps) (refuses n p) = []
 turns (reads ps) (reads c) =
     map (λ k. itemsOrRefusal (runningBy (turning k) (worldOf c) 4000 ps [] 0)) (below (length ps))
 
-turnsOf : List ℕ → List ℕ → List Told
+turnsOf : List ℕ → List ℕ → List ToldAnswer
 turnsOf query doc = turns (planRead (planBytes query)) (catalogueRead doc)
 
 turned :

@@ -1,7 +1,7 @@
 -- The part of a table that has all rows of the group that a row opens.
 --     opening-group      the rows above a row that opens a group have none of the group's
 --     leading-..         the rows from the first on that hold one cell, row by row
---     from s i n, Has    n rows of the table s from row i on, and what is asked of them
+--     from s i n, HasGroup   n rows of the table s from row i on, and what is asked of them
 --     left-has, run-has  what both parts have
 use Prim.Native.Nat.{ℕ, suc, _+_, _-_, _*_, _≤_, _<_}
 use mathlib.Core.Path.{_≡_, refl, sym, ap, ap₂, _∙_, subst}
@@ -125,8 +125,8 @@ run-group (r ∷ u) c e =
 abbrev from : Stand → (i n : ℕ) → Stand
 from s i n = record { at = s .at + i * s .width; rows = n; width = s .width }
 
-abbrev Has : List ℤ → Stand → (c i : ℕ) → Stand → Type 0
-Has xs s c i p =
+abbrev HasGroup : List ℤ → Stand → (c i : ℕ) → Stand → Type 0
+HasGroup xs s c i p =
     (p .at + p .rows * p .width ≤ s .at + s .rows * s .width)
     × (p .width ≡ s .width)
     × (0 < p .rows)
@@ -146,7 +146,7 @@ module _ (xs : List ℤ) (s : Stand) (c i : ℕ) (inside : i < s .rows) where
 
   part-has :
       (n : ℕ) → n ≤ s .rows - i → 0 < n →
-      groupOf (take n (drop i t)) c (cellAt t c i) ≡ groupOf t c (cellAt t c i) → Has xs s c i (from s i n)
+      groupOf (take n (drop i t)) c (cellAt t c i) ≡ groupOf t c (cellAt t c i) → HasGroup xs s c i (from s i n)
   part-has n h k e =
       let m : i + n ≤ s .rows = omega arith in (
         omega (arith, mul-le-mul-right (s .width) m, add-mul i n (s .width)),
@@ -160,7 +160,7 @@ module _ (xs : List ℤ) (s : Stand) (c i : ℕ) (inside : i < s .rows) where
 
   module _ (e : opening t c i ≡ true) where
     -- all rows from row i on
-    pub left-has : Has xs s c i (from s i (s .rows - i))
+    pub left-has : HasGroup xs s c i (from s i (s .rows - i))
     left-has =
         part-has (s .rows - i) (omega arith) (omega arith)
         (ap (λ (u : Table). groupOf u c (cellAt t c i))
@@ -172,7 +172,7 @@ module _ (xs : List ℤ) (s : Stand) (c i : ℕ) (inside : i < s .rows) where
         (n : ℕ) → climbs (column t c) ≡ true → n ≤ s .rows - i →
         n ≡ leading (same (inFront (tableAt xs (from s i (s .rows - i))) c))
         (column (tableAt xs (from s i (s .rows - i))) c) →
-        Has xs s c i (from s i n)
+        HasGroup xs s c i (from s i n)
     run-has n up h d =
         let u = drop i t in
         let all : tableAt xs (from s i (s .rows - i)) ≡ u =

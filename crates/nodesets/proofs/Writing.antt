@@ -17,7 +17,7 @@ use Rattle.cells.specs.Cell.{nodeCell}
 use Rattle.laws.specs.Lists.{gather}
 use Rattle.laws.specs.Rows.{laid, flat}
 use Rattle.laws.proofs.Rows.{laid-nothing, set-more, length-snoc}
-use Rattle.nodesets.specs.Nodes.{ranks, rowsOf, Listed}
+use Rattle.nodesets.specs.Nodes.{ranks, rowsOf, ListedNodes}
 use Rattle.nodesets.proofs.Ranks.{ranks-none, ranks-more, length-ranks-rises}
 
 module _ (ms : List Bool) (v : ℕ) where
@@ -37,15 +37,15 @@ module _ (ms : List Bool) (v : ℕ) where
       )
 
 module _ (g : List ℕ → List ℤ) (ms : List Bool) (at : ℕ) (old : List ℤ) where
-  pub laid-begin : g [] ≡ [] → Listed g ms 0 0 at old old
+  pub laid-begin : g [] ≡ [] → ListedNodes g ms 0 0 at old old
   laid-begin e =
       record {
         number = sym (ap length (ranks-none ms));
         cells = sym (laid-nothing old at) ∙ ap (laid old at) (sym (ap g (ranks-none ms) ∙ e));
       }
 
-  module _ (v n : ℕ) (new : List ℤ) (o : Listed g ms v n at old new) where
-    pub laid-skip : getD ms v false ≡ false → Listed g ms (v + 1) n at old new
+  module _ (v n : ℕ) (new : List ℤ) (o : ListedNodes g ms v n at old new) where
+    pub laid-skip : getD ms v false ≡ false → ListedNodes g ms (v + 1) n at old new
     laid-skip e =
         record {
           number = o .number ∙ ap length (sym (ranks-skip ms v e));
@@ -54,7 +54,7 @@ module _ (g : List ℕ → List ℤ) (ms : List Bool) (at : ℕ) (old : List ℤ
 
     pub laid-take :
         getD ms v false ≡ true → (more : List ℤ) → g (ranks v ms ++ (v ∷ [])) ≡ g (ranks v ms) ++ more
-        → (next : List ℤ) → next ≡ laid old at (g (ranks v ms) ++ more) → Listed g ms (v + 1) (n + 1) at old next
+        → (next : List ℤ) → next ≡ laid old at (g (ranks v ms) ++ more) → ListedNodes g ms (v + 1) (n + 1) at old next
     laid-take e more k next l =
         record {
           number = omega (arith, o .number, ap length (ranks-take ms v e), length-append (ranks v ms) (v ∷ []));
@@ -63,10 +63,10 @@ module _ (g : List ℕ → List ℤ) (ms : List Bool) (at : ℕ) (old : List ℤ
 
 -- the cells of the nodes, one after another
 module _ (ms : List Bool) (at : ℕ) (old : List ℤ) (v n : ℕ) (new : List ℤ)
-    (o : Listed (map nodeCell) ms v n at old new) where
+    (o : ListedNodes (map nodeCell) ms v n at old new) where
   pub node-take :
       getD ms v false ≡ true → at + n < length old
-      → Listed (map nodeCell) ms (v + 1) (n + 1) at old (set new (at + n) (nodeCell v))
+      → ListedNodes (map nodeCell) ms (v + 1) (n + 1) at old (set new (at + n) (nodeCell v))
   node-take e h =
       laid-take (map nodeCell) ms at old v n new o e (nodeCell v ∷ []) (map-append nodeCell (ranks v ms) (v ∷ []))
       (set new (at + n) (nodeCell v))
@@ -79,7 +79,7 @@ module _ (x : ℤ) where
   unfolding rowsOf flat gather
   rows-none = refl
 
-  pub rows-begin : (ms : List Bool) (at : ℕ) (old : List ℤ) → Listed (rowsOf x) ms 0 0 at old old
+  pub rows-begin : (ms : List Bool) (at : ℕ) (old : List ℤ) → ListedNodes (rowsOf x) ms 0 0 at old old
   rows-begin ms at old = laid-begin (rowsOf x) ms at old rows-none
 
   rows-snoc : (rs : List ℕ) (v : ℕ) → rowsOf x (rs ++ (v ∷ [])) ≡ rowsOf x rs ++ (x ∷ nodeCell v ∷ [])
@@ -92,11 +92,13 @@ module _ (x : ℤ) where
   length-rows [] = refl
   length-rows (r ∷ rs) = omega (arith, length-rows rs)
 
-  module _ (ms : List Bool) (at : ℕ) (old : List ℤ) (v n : ℕ) (new : List ℤ) (o : Listed (rowsOf x) ms v n at old new)
+  module _ (ms : List Bool) (at : ℕ) (old : List ℤ) (v n : ℕ) (new : List ℤ)
+      (o : ListedNodes (rowsOf x) ms v n at old new)
     where
       pub row-take :
           getD ms v false ≡ true → at + 2 * n + 1 < length old
-          → Listed (rowsOf x) ms (v + 1) (n + 1) at old (set (set new (at + 2 * n) x) (at + 2 * n + 1) (nodeCell v))
+          → ListedNodes (rowsOf x) ms (v + 1) (n + 1) at old
+          (set (set new (at + 2 * n) x) (at + 2 * n + 1) (nodeCell v))
       row-take e h =
           laid-take (rowsOf x) ms at old v n new o e (x ∷ nodeCell v ∷ []) (rows-snoc (ranks v ms) v)
           (set (set new (at + 2 * n) x) (at + 2 * n + 1) (nodeCell v))

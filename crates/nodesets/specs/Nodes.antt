@@ -1,14 +1,15 @@
 -- Mark sets: a list of flags, one for each rank; from cells to mark sets and back (document 01, 'Query records':
 -- every item of a step's operand must be a node).
 --     ranks n ms                the ranks below n that ms marks, rising
---     Room ms n cells at w      the marked ranks below n have room from `at` on, w cells each
+--     CellRoom ms n cells at w   the marked ranks below n have room from `at` on, w cells each
 --     among rs v                rank v is one of rs
 --     MarkSet n rs ms           ms marks exactly the ranks of rs, all of them below n
 --     found f                   the rank that an answer names, or that there is none
 --     FromOne c x m old new     what marking one cell answers and leaves
 --     FromAll c xs m ms         what marking a list of cells answers, and the marks that it leaves where all are nodes
 --     rowsOf x rs               for each rank of rs the cells of a row: x, and the node's cell
---     Listed g ms v n at old new     the n marked ranks below v stand from `at` on, as the cells that g makes of them
+--     ListedNodes g ms v n at old new   the n marked ranks below v stand from `at` on, as the cells that g makes of
+--                                       them
 use Prim.Native.Nat.{ℕ, _+_, _*_, _≤_, _<_}
 use mathlib.Core.Path.{_≡_}
 use mathlib.Core.List.{List, [], _∷_, map}
@@ -31,7 +32,7 @@ unfoldable pub ranks : ℕ → List Bool → List ℕ
 ranks n ms = filter (λ r. getD ms r false) (below n)
 
 -- the marked ranks have room, w cells each
-pub record Room (ms : List Bool) (n : ℕ) (cells : List ℤ) (at w : ℕ) : Type 0 where
+pub record CellRoom (ms : List Bool) (n : ℕ) (cells : List ℤ) (at w : ℕ) : Type 0 where
   pub few : n ≤ 2048
   pub sources : n ≤ length ms
   pub fits : at + length (ranks n ms) * w ≤ length cells
@@ -59,6 +60,6 @@ FromAll c xs Marked.NotANode ms = ranksOf c xs ≡ fails
 unfoldable pub rowsOf : ℤ → List ℕ → List ℤ
 rowsOf x rs = flat (map (λ y. x ∷ y ∷ []) (map nodeCell rs))
 
-pub record Listed (g : List ℕ → List ℤ) (ms : List Bool) (v n at : ℕ) (old new : List ℤ) : Type 0 where
+pub record ListedNodes (g : List ℕ → List ℤ) (ms : List Bool) (v n at : ℕ) (old new : List ℤ) : Type 0 where
   pub number : n ≡ length (ranks v ms)
   pub cells : new ≡ laid old at (g (ranks v ms))

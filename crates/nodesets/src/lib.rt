@@ -11,7 +11,7 @@ ghost use Rattle.cells.specs.declared.Held.the-variants as Holding;
 ghost use Rattle.laws.specs.Rows.{laid};
 ghost use Rattle.meaning.specs.Catalogue.{Catalogue};
 ghost use Rattle.meaning.specs.World;
-ghost use Rattle.nodesets.specs.Nodes.{ranks, Room, MarkSet, found, FromOne, FromAll, rowsOf};
+ghost use Rattle.nodesets.specs.Nodes.{ranks, CellRoom, MarkSet, found, FromOne, FromAll, rowsOf};
 
 // The cell of an iteration, as a table's first column has it. It is never taken for a rank.
 pub struct Iteration(pub i64);
@@ -113,7 +113,7 @@ pub fn count(marks: &[bool], rows: usize) -> usize
 
 // Writes the cells of the marked nodes, by rising rank, from a place on. Answers how many they are.
 pub fn write(marks: &[bool], rows: usize, work: &mut [i64], at: usize) -> usize
-    requires { ⌜ Room (now marks) rows (now work) at 1 ⌝ }
+    requires { ⌜ CellRoom (now marks) rows (now work) at 1 ⌝ }
     ensures { λ n. ⌜ (n ≡ length (ranks rows (now (marks .entry))))
         × (now (work .exit) ≡ laid (now (work .entry)) at (map nodeCell (ranks rows (now (marks .entry))))) ⌝ }
 {
@@ -138,7 +138,7 @@ pub fn write_rows(
     work: &mut [i64],
     at: usize,
 ) -> usize
-    requires { ⌜ Room (now marks) rows (now work) at 2 ⌝ }
+    requires { ⌜ CellRoom (now marks) rows (now work) at 2 ⌝ }
     ensures { λ n. ⌜ (n ≡ length (ranks rows (now (marks .entry))))
         × (now (work .exit) ≡ laid (now (work .entry)) at (rowsOf (iteration .0) (ranks rows (now (marks .entry))))) ⌝ }
 {

@@ -1,5 +1,5 @@
 -- The pass that lays the rows in the order of their numbers, each with its counter.
---     Turning ..         what holds before row i of the order is laid: from `to` on there is room for the rows that are
+--     NumberingTurn ..   what holds before row i of the order is laid: from `to` on there is room for the rows that are
 --                        left, the table stands as it did, and what is left gives what the whole gives
 --     begins, goes-on    at the start, and after one row
 --     ends               at the end all rows are laid
@@ -51,7 +51,8 @@ rest xs s p ns c last i = some xs s p ns c last i (s .rows - i)
 abbrev whole : List ℤ → Stand → ℕ → List ℕ → Table
 whole xs s p ns = numberedRows xs s p (row ns 0 (s .rows))
 
-pub record Turning (xs : List ℤ) (s : Stand) (p : ℕ) (ns : List ℕ) (at : ℕ) (ys : List ℤ) (to c last i : ℕ) : Type 0
+pub record NumberingTurn (xs : List ℤ) (s : Stand) (p : ℕ) (ns : List ℕ) (at : ℕ) (ys : List ℤ)
+    (to c last i : ℕ) : Type 0
   where
     pub begun : i ≤ s .rows
     pub place : to + (s .rows - i) * (s .width + 1) ≡ at + s .rows * (s .width + 1)
@@ -63,7 +64,7 @@ pub record Turning (xs : List ℤ) (s : Stand) (p : ℕ) (ns : List ℕ) (at : �
     pub means : laid ys to (flat (rest xs s p ns c last i)) ≡ laid xs at (flat (whole xs s p ns))
 
 module _ (xs : List ℤ) (s : Stand) (p : ℕ) (ns : List ℕ) (at : ℕ) where
-  pub begins : 0 < s .rows → Turning xs s p ns at xs at 0 0 0
+  pub begins : 0 < s .rows → NumberingTurn xs s p ns at xs at 0 0 0
   begins h =
       record {
         begun = omega arith;
@@ -77,7 +78,7 @@ module _ (xs : List ℤ) (s : Stand) (p : ℕ) (ns : List ℕ) (at : ℕ) where
       }
 
   pub ends :
-      (ys : List ℤ) (to c last i : ℕ) → Turning xs s p ns at ys to c last i → s .rows ≤ i →
+      (ys : List ℤ) (to c last i : ℕ) → NumberingTurn xs s p ns at ys to c last i → s .rows ≤ i →
       ys ≡ laid xs at (flat (whole xs s p ns))
   unfolding row countedFrom flat gather
   ends ys to c last i l h =
@@ -85,7 +86,7 @@ module _ (xs : List ℤ) (s : Stand) (p : ℕ) (ns : List ℕ) (at : ℕ) where
       sym (ap (λ (n : ℕ). laid ys to (flat (some xs s p ns c last i n))) none ∙ laid-nothing ys to) ∙ l .means
 
   module _ (ready : Layable xs s p ns at) (ys : List ℤ) (to c last i : ℕ)
-      (l : Turning xs s p ns at ys to c last i) (more : i < s .rows) where
+      (l : NumberingTurn xs s p ns at ys to c last i) (more : i < s .rows) where
     next-within : getD ns i 0 < s .rows
     next-within = ready .within i more
 
@@ -166,7 +167,7 @@ module _ (xs : List ℤ) (s : Stand) (p : ℕ) (ns : List ℕ) (at : ℕ) where
 
       pub goes-on :
           (zs : List ℤ) → zs ≡ laid ys to (row ys a (s .width) ++ (pos d ∷ [])) →
-          Turning xs s p ns at zs (to + (s .width + 1)) d k (i + 1)
+          NumberingTurn xs s p ns at zs (to + (s .width + 1)) d k (i + 1)
       goes-on zs lays =
           let fit : to + length one ≤ length ys = omega (arith, length-one, row-room) in
           let after : List ℤ = flat (rest xs s p ns d k (i + 1)) in

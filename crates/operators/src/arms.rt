@@ -15,7 +15,7 @@ ghost use Rattle.rowwise.specs.Tasks;
 ghost use Rattle.axes.specs.Steps.{Ready};
 ghost use Rattle.sorting.specs.Order.{columnsOf};
 ghost use Rattle.directory.specs.Directory.{standAt};
-ghost use Rattle.directory.specs.Sound.{Stands, wide};
+ghost use Rattle.directory.specs.Sound.{TableStands, wide};
 use codes::Axis;
 use codes::Test;
 use directory::stand;
@@ -35,7 +35,7 @@ pub fn rowwise(
     at: usize,
     room: usize,
 ) -> Laid
-    requires { ⌜ Stands (now directory) at t × (at ≤ room) × (room ≤ length (now work))
+    requires { ⌜ TableStands (now directory) at t × (at ≤ room) × (room ≤ length (now work))
         × (10 * rows ≤ length (now doc)) ⌝ }
     requires { ⌜ Tasks.Suits (now plan) at (wide (now directory) t) task ⌝ }
     requires { ⌜ (1 ≤ Tasks.wider (wide (now directory) t) task) × (Tasks.wider (wide (now directory) t) task ≤ 6) ⌝ }
@@ -60,7 +60,7 @@ pub fn minus(
     at: usize,
     room: usize,
 ) -> Laid
-    requires { ⌜ Stands (now directory) at t × Stands (now directory) at u × (at ≤ room)
+    requires { ⌜ TableStands (now directory) at t × TableStands (now directory) at u × (at ≤ room)
         × (room ≤ length (now work)) ⌝ }
     requires { ⌜ (10 * rows ≤ length (now doc)) × (wide (now directory) t ≡ wide (now directory) u) ⌝ }
     ensures { λ r. ⌜ Owes room at (wide (now (directory .entry)) t)
@@ -92,7 +92,7 @@ pub fn union(
     at: usize,
     room: usize,
 ) -> Laid
-    requires { ⌜ Stands (now directory) at t × Stands (now directory) at u × (at ≤ room)
+    requires { ⌜ TableStands (now directory) at t × TableStands (now directory) at u × (at ≤ room)
         × (room ≤ length (now work)) ⌝ }
     requires { ⌜ wide (now directory) t ≡ wide (now directory) u ⌝ }
     ensures { λ r. ⌜ Owes room at (wide (now (directory .entry)) t)
@@ -116,7 +116,7 @@ pub fn join(
     at: usize,
     room: usize,
 ) -> Laid
-    requires { ⌜ Stands (now directory) at t × Stands (now directory) at u × (at ≤ room)
+    requires { ⌜ TableStands (now directory) at t × TableStands (now directory) at u × (at ≤ room)
         × (room ≤ length (now work)) ⌝ }
     requires { ⌜ (c < wide (now directory) t) × (d < wide (now directory) u)
         × (wide (now directory) t + wide (now directory) u ≤ 6) ⌝ }
@@ -139,7 +139,7 @@ pub fn once(
     at: usize,
     room: usize,
 ) -> Laid
-    requires { ⌜ Stands (now directory) at t × (at ≤ room) × (room ≤ length (now work))
+    requires { ⌜ TableStands (now directory) at t × (at ≤ room) × (room ≤ length (now work))
         × (c < wide (now directory) t) ⌝ }
     ensures { λ r. ⌜ Owes room at (wide (now (directory .entry)) t)
         (provided (Operators.once (Operators.column (tableAt (now (work .entry)) (standAt (now (directory .entry)) t))
@@ -163,7 +163,7 @@ pub fn root(
     at: usize,
     room: usize,
 ) -> Laid
-    requires { ⌜ Stands (now directory) at t × (at ≤ room) × (room ≤ length (now work))
+    requires { ⌜ TableStands (now directory) at t × (at ≤ room) × (room ≤ length (now work))
         × (wide (now directory) t + 1 ≤ 6) ⌝ }
     requires { ⌜ (10 * rows ≤ length (now doc)) × (rows ≤ 2048) × (1 ≤ k) ⌝ }
     ensures { λ r. ⌜ Owes room at (wide (now (directory .entry)) t + 1)
@@ -201,7 +201,7 @@ pub fn number(
     at: usize,
     room: usize,
 ) -> Laid
-    requires { ⌜ Stands (now directory) at t × (at ≤ room) × (room ≤ length (now work)) × (room ≤ 65536) ⌝ }
+    requires { ⌜ TableStands (now directory) at t × (at ≤ room) × (room ≤ length (now work)) × (room ≤ 65536) ⌝ }
     requires { ⌜ (1 ≤ n) × (n ≤ 2) × (from + n ≤ length (now plan)) ⌝ }
     requires { ⌜ ((eqb p 255 || ltb p (wide (now directory) t))
         && columns (wide (now directory) t) (columnsAt (now plan) from n)) ≡ true ⌝ }
@@ -225,7 +225,7 @@ pub fn counts(
     at: usize,
     room: usize,
 ) -> Laid
-    requires { ⌜ Stands (now directory) at t × (at ≤ room) × (room ≤ length (now work)) × (room ≤ 65536)
+    requires { ⌜ TableStands (now directory) at t × (at ≤ room) × (room ≤ length (now work)) × (room ≤ 65536)
         × (c < wide (now directory) t) ⌝ }
     ensures { λ r. ⌜ Owes room at 2
         (gives (Operators.counts (tableAt (now (work .entry)) (standAt (now (directory .entry)) t)) c))
@@ -245,7 +245,7 @@ pub fn truths(
     at: usize,
     room: usize,
 ) -> Laid
-    requires { ⌜ Stands (now directory) at t × (at ≤ room) × (room ≤ length (now work))
+    requires { ⌜ TableStands (now directory) at t × (at ≤ room) × (room ≤ length (now work))
         × (10 * rows ≤ length (now doc)) ⌝ }
     requires { ⌜ wide (now directory) t ≡ 3 ⌝ }
     ensures { λ r. ⌜ Owes room at 2
@@ -271,7 +271,7 @@ pub fn steps(
     at: usize,
     room: usize,
 ) -> Laid
-    requires { ⌜ Stands (now directory) at t × (at ≤ room) × (room ≤ length (now work))
+    requires { ⌜ TableStands (now directory) at t × (at ≤ room) × (room ≤ length (now work))
         × (wide (now directory) t ≡ 2) ⌝ }
     requires { ⌜ Ready (now doc) rows (now from) (now to) ⌝ }
     ensures { λ r. ⌜ Owes room at 2

@@ -7,8 +7,8 @@ ghost use Rattle.meaning.specs.World.{worldOf};
 ghost use Rattle.tables.specs.Layout.{Owes};
 ghost use Rattle.axes.specs.Steps.{Ready};
 ghost use Rattle.plan_records.specs.Decoded.{operatorOf};
-ghost use Rattle.directory.specs.Directory.{tablesIn, Listed};
-ghost use Rattle.directory.specs.Sound.{madeWidth, Sound};
+ghost use Rattle.directory.specs.Directory.{tablesIn, ListedTables};
+ghost use Rattle.directory.specs.Sound.{madeWidth, SoundOperator};
 
 mod arms;
 
@@ -38,8 +38,8 @@ pub fn perform(
     to: &mut [bool],
     room: usize,
 ) -> Laid
-    requires { ⌜ Listed (now directory) (top .tables) (top .cells)
-        × Sound (now plan) (now directory) (top .tables) operator ⌝ }
+    requires { ⌜ ListedTables (now directory) (top .tables) (top .cells)
+        × SoundOperator (now plan) (now directory) (top .tables) operator ⌝ }
     requires { ⌜ (top .cells ≤ room) × (room ≤ length (now work)) × (room ≤ 65536) ⌝ }
     requires { ⌜ (32768 ≤ length (now order)) × (16384 ≤ length (now aside))
         × Ready (now doc) rows (now from) (now to) ⌝ }

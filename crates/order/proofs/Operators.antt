@@ -17,7 +17,7 @@ use Rattle.meaning.specs.Plan.{Op, RT, RA, RP, RU, RD, RS, RJ, RN, RF, RV, RC, 
 use Rattle.meaning.specs.Operators.{Row, Table, cell, column, sameRow, attach, project, minus, select, join}
 use Rattle.meaning.specs.Operators.{numberedAfter, inGroup, number, added, groups, groupOf, counts, itemsInOrder}
 use Rattle.meaning.specs.Operators.{truths, steps, rooted, tableOf, make}
-use Rattle.agreement.specs.Tieless.{alike, Untied, orderedBy, Apart}
+use Rattle.agreement.specs.Tieless.{alike, Untied, orderedBy, RowsApart}
 use Rattle.order.specs.Shuffled.{Permuted, Permutes, none, more, Bagged}
 use Rattle.order.proofs.Permuted.{permuted-is, permuted-append, map-permuted, filter-permuted, gather-permuted}
 use Rattle.order.proofs.Permuted.{gather-alike, firsts-permuted, any-permuted, once-permuted, length-permuted}
@@ -105,7 +105,7 @@ once-provided {a} {t = t} {u = u} e d = subst (λ b. SameRows (provided a (gives
     go true = same-gives d
     go false = bothFail refl refl
 
-pub make-permuted : (w : World) → Bagged w → (o : Op) {ts us : List Table} → Apart o ts → Permutes ts us
+pub make-permuted : (w : World) → Bagged w → (o : Op) {ts us : List Table} → RowsApart o ts → Permutes ts us
     → SameRows (make w o ts) (make w o us)
 unfolding make attach project select truths steps rooted
 make-permuted w bag RT a h = same-gives (Permᴰ·refl _)

@@ -1,6 +1,6 @@
 -- The order theorem.
 --     plan-operators       the operators of the plan that the translator leaves are the query's
---     Ended w q ts         where a run of q's plan gives tables ts: the items that q means, placed in the last of them
+--     RunEnded w q ts      where a run of q's plan gives tables ts: the items that q means, placed in the last of them
 --     order-free           no plan that the translator writes leans on how rows stand
 use Prim.Native.Nat.{ℕ}
 use mathlib.Core.Path.{_≡_, sym, ap, _∙_, subst}
@@ -26,7 +26,7 @@ use Rattle.theorems.proofs.Counted.{running-done, running-failed}
 use Rattle.theorems.proofs.Nodes.{lawful}
 use Rattle.theorems.specs.Nodes.{Lawful}
 use Rattle.theorems.proofs.PlanRead.{query-plan-back, translated}
-use Rattle.theorems.specs.PlanRead.{Translated}
+use Rattle.theorems.specs.PlanRead.{TranslatedPlan}
 use Rattle.agreement.specs.Typed.{semPlan}
 use Rattle.agreement.specs.Families.{placed, SameItems, bothGive, bothFail}
 use Rattle.agreement.specs.Encoded.{encode}
@@ -48,7 +48,7 @@ plan-operators : (query doc : List ℕ) → Bytes query → (i : Passed query do
     → (ps : List Placed) → planRead (take m (translateCall query lent .left)) ≡ reads ps
     → map (λ (p : Placed). p .op) ps ≡ plan (i .read .tree)
 plan-operators query doc bytes i lent n m e ps r =
-    let t : Translated query lent n m = translated query lent n m e in
+    let t : TranslatedPlan query lent n m = translated query lent n m e in
     let (qs, back) =
     query-plan-back query (t .read) bytes (t .accepted) (omega (arith, t .operators, t .within)) in
     ap (map (λ (p : Placed). p .op)) (reads-same (sym r ∙ ap planRead (t .bytes) ∙ back .back))
@@ -57,16 +57,16 @@ plan-operators query doc bytes i lent n m e ps r =
 
 -- What a run of the plan says of the query, whatever it was run in
 
-record Ended (w : World) (q : Query) (ts : List Table) : Type 0 where
+record RunEnded (w : World) (q : Query) (ts : List Table) : Type 0 where
   items : List ℤ
   meant : eval w (λ v. []) q ≡ gives items
   last : lastTable ts ≡ map encode (placed 1 0 items)
 
 module _ (w : World) (laws : Lawful w) (q : Query) (closed : Closed q []) where
-  run-ends : (ts : List Table) → run w (plan q) [] ≡ gives ts → Ended w q ts
+  run-ends : (ts : List Table) → run w (plan q) [] ≡ gives ts → RunEnded w q ts
   run-ends ts e = go (same-items w laws q)
     where
-      go : SameItems (semPlan w q) (eval w (λ v. []) q) → Ended w q ts
+      go : SameItems (semPlan w q) (eval w (λ v. []) q) → RunEnded w q ts
       go (bothGive xs made meant) =
           let r = plan-gives w laws q closed (placed 1 0 xs) made in
           record { items = xs; meant = meant; last = ap lastTable (gives-same (sym e ∙ r .runs)) ∙ r .last }

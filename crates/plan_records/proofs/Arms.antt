@@ -37,7 +37,7 @@ use Rattle.codes.specs.declared.AxisField.the-variants as AxisField
 use Rattle.codes.specs.declared.TestField.{TestField}
 use Rattle.codes.specs.declared.TestField.the-variants as TestField
 use Rattle.plan_records.specs.Arms as Arms
-use Rattle.plan_records.specs.Decoded.{operatorOf, Stands, Means}
+use Rattle.plan_records.specs.Decoded.{operatorOf, ColumnsStand, Means}
 use Rattle.plan_records.proofs.Sized.{shorter, there, none-reads, bad-reads, cut-reads, cut-before, sound-reads}
 
 -- The range of a number
@@ -67,7 +67,7 @@ module _ (bs : List ℕ) (at : ℕ) (z : ℤ) (e : z ≡ int8 bs (at + 4)) (b : 
       (t : Bool) → t ≡ fits bs at 12 → not t ≡ false → not b ≡ false → (w : ℕ) → w ≡ word bs (at + 2) 2 →
       (r : Reading) → r ≡ Sound (record { operator = Operator.Attach w z; next = at + 12 }) →
       Means bs r (Arms.attach bs at)
-  unfolding Arms.attach attachAt provided operatorOf Stands
+  unfolding Arms.attach attachAt provided operatorOf ColumnsStand
   attach-sound t p q h w k r s =
       sound-reads bs at 12 t p _ r (Operator.Attach w z) q s tt (rw (← e, ← f, not-false b h, k))
 
@@ -97,7 +97,7 @@ module _ (bs : List ℕ) (at n : ℕ) where
         (w : ℕ) → w ≡ word bs (at + 2) 2 →
         (r : Reading) → r ≡ Sound (record { operator = Operator.Project w n (at + 5); next = at + (5 + n) }) →
         Means bs r (Arms.project bs at)
-    unfolding Arms.project projectAt provided operatorOf Stands
+    unfolding Arms.project projectAt provided operatorOf ColumnsStand
     project-sound t p q h w k r s =
         let l : at + 5 + n ≤ length bs = omega (arith, there bs at (5 + n) t p q) in
         rw (← e) (sound-reads bs at (5 + n) t p _ r (Operator.Project w n (at + 5)) q s l (rw (h, k)))
@@ -116,7 +116,7 @@ module _ (bs : List ℕ) (at n : ℕ) where
         (w : ℕ) → w ≡ word bs (at + 2) 2 → (p : ℕ) → p ≡ field bs at 4 →
         (r : Reading) → r ≡ Sound (record { operator = Operator.Number w p n (at + 6); next = at + (6 + n) }) →
         Means bs r (Arms.number bs at)
-    unfolding Arms.number numberAt provided operatorOf Stands
+    unfolding Arms.number numberAt provided operatorOf ColumnsStand
     number-sound t i q h w k p j r s =
         let l : at + 6 + n ≤ length bs = omega (arith, there bs at (6 + n) t i q) in
         rw (← e) (sound-reads bs at (6 + n) t i _ r (Operator.Number w p n (at + 6)) q s l (rw (h, k, j)))
@@ -134,7 +134,7 @@ module _ (bs : List ℕ) (at : ℕ) (x : FunctionField) (e : functionField x ≡
       (f : Function) → x ≡ FunctionField.Is f →
       (r : Reading) → r ≡ Sound (record { operator = Operator.Apply w f c d; next = at + 7 }) →
       Means bs r (Arms.apply bs at)
-  unfolding Arms.apply attempt operatorOf Stands
+  unfolding Arms.apply attempt operatorOf ColumnsStand
   apply-sound t p q w c d i j k f h r s =
       sound-reads bs at 7 t p _ r (Operator.Apply w f c d) q s tt (rw (sym e ∙ ap functionField h, i, j, k))
 
@@ -184,7 +184,7 @@ module _ (bs : List ℕ) (at : ℕ) (x : AxisField) (e : axisField x ≡ axisOf 
         (test : Test) → y ≡ TestField.Is test →
         (r : Reading) → r ≡ Sound (record { operator = Operator.Step w axis test; next = at + 8 }) →
         Means bs r (Arms.step bs at)
-    unfolding Arms.step stepAt attempt operatorOf Stands
+    unfolding Arms.step stepAt attempt operatorOf ColumnsStand
     step-sound t h q w k test l r s =
         sound-reads bs at 8 t h _ r (Operator.Step w axis test) q s tt
         (rw (sym e ∙ ap axisField p, sym test-is ∙ ap testField l, k))
@@ -200,7 +200,7 @@ module _ (bs : List ℕ) (at k : ℕ) (e : k ≡ field bs at 4) where
       (t : Bool) → t ≡ fits bs at 5 → not t ≡ false → (k ≡ 0 → ⊥) → k < 256 → (w : ℕ) → w ≡ word bs (at + 2) 2 →
       (r : Reading) → r ≡ Sound (record { operator = Operator.Root w k; next = at + 5 }) →
       Means bs r (Arms.root bs at)
-  unfolding Arms.root fragmentOf attempt provided operatorOf Stands
+  unfolding Arms.root fragmentOf attempt provided operatorOf ColumnsStand
   root-sound t p q z l w i r s =
       sound-reads bs at 5 t p _ r (Operator.Root w k) q s tt
       (rw (← e, in-range 1 255 k (omega arith) (omega arith), i))
@@ -219,7 +219,7 @@ module _ (bs : List ℕ) (at : ℕ) where
   either false a b p q = q
 
   operator-cut : (mark : ℕ) → fits bs at 2 ≡ false → Plan.operatorOf bs at mark ≡ fails
-  unfolding Plan.operatorOf Stands
+  unfolding Plan.operatorOf ColumnsStand
   operator-cut mark e =
       either (eqb mark markRT) _ _ (shorter bs at 2 2 _ (omega arith) e)
       (either (eqb mark markRA) _ _ (shorter bs at 2 12 _ (omega arith) e)
@@ -246,7 +246,7 @@ module _ (bs : List ℕ) (at : ℕ) where
       (markRO ∷ markRX ∷ markRK ∷ markRE ∷ markRC ∷ markRF ∷ markRN ∷ markRJ ∷ markRS ∷ markRD ∷ markRU ∷ markRP
       ∷ markRA ∷ markRT ∷ []) →
       Plan.operatorOf bs at m ≡ fails
-  unfolding Plan.operatorOf Stands
+  unfolding Plan.operatorOf ColumnsStand
   operator-none m ((((((((((((((h, a), b), c), d), e), f), g), i), j), k), l), n), o), p) =
       simp (
         ne-eqb m markRT a,

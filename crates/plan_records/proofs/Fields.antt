@@ -22,7 +22,7 @@ use Rattle.laws.proofs.Booleans.{both-true}
 use Rattle.cells.proofs.Bytes.{word-bound}
 use Rattle.codes.proofs.Numbers.{name-fits}
 use Rattle.laws.proofs.Outcomes.{given-fails, given-gives, given-cond, given-provided, given-attempt, given-any}
-use Rattle.plan_records.specs.Fields.{Ends}
+use Rattle.plan_records.specs.Fields.{EndsWithin}
 use Rattle.plan_records.proofs.Columns.{columns-length}
 
 within : (lo hi n : ℕ) → leb lo n && leb n hi ≡ true → (lo ≤ n) × (n ≤ hi)
@@ -32,7 +32,7 @@ within lo hi n t =
 
 module _ (bs : List ℕ) (h : Bytes bs) (at : ℕ) where
   sized-ends :
-      (n : ℕ) (a : Attempt Op) → 0 < n → (at + n ≤ length bs → Given Own a) → Given (Ends bs at) (sized bs at n a)
+      (n : ℕ) (a : Attempt Op) → 0 < n → (at + n ≤ length bs → Given Own a) → Given (EndsWithin bs at) (sized bs at n a)
   unfolding sized fits
   sized-ends n a z g =
       given-provided _
@@ -41,7 +41,7 @@ module _ (bs : List ℕ) (h : Bytes bs) (at : ℕ) where
       given-attempt (g l) (λ o k. given-gives (record { after = omega arith; within = omega arith; own = k })))
 
   -- an operator whose fields have no range of their own
-  plain : (n : ℕ) (o : Op) → 0 < n → Own o → Given (Ends bs at) (sized bs at n (gives o))
+  plain : (n : ℕ) (o : Op) → 0 < n → Own o → Given (EndsWithin bs at) (sized bs at n (gives o))
   plain n o z k = sized-ends n (gives o) z (λ l. given-gives k)
 
   attach-own : (z : ℤ) → Given Own (attachAt bs at z)
@@ -62,7 +62,7 @@ module _ (bs : List ℕ) (h : Bytes bs) (at : ℕ) where
       let c = columns-length bs (at + 6) n (omega arith) in
       given-gives (omega (arith, within 1 2 n t), omega (arith, within 1 2 n t)))
 
-  function-ends : (f : ℕ) → Given (Ends bs at) (functionAt bs at f)
+  function-ends : (f : ℕ) → Given (EndsWithin bs at) (functionAt bs at f)
   unfolding functionAt Own
   function-ends f =
       given-cond (eqb f 7) (plain 6 _ (omega arith) tt)
@@ -80,7 +80,7 @@ module _ (bs : List ℕ) (h : Bytes bs) (at : ℕ) where
   unfolding fragmentOf Own
   root-own t k = given-attempt (given-provided _ (λ e. given-gives (within 1 255 k e))) (λ j i. given-gives i)
 
-  operator-given : (mark : ℕ) → Given (Ends bs at) (operatorOf bs at mark)
+  operator-given : (mark : ℕ) → Given (EndsWithin bs at) (operatorOf bs at mark)
   unfolding operatorOf Own
   operator-given mark =
       given-cond (eqb mark markRT) (plain 2 _ (omega arith) tt)
@@ -99,6 +99,6 @@ module _ (bs : List ℕ) (h : Bytes bs) (at : ℕ) where
       (given-cond (eqb mark markRO) (sized-ends 5 _ (omega arith) (λ l. root-own _ (field bs at 4)))
       given-fails)))))))))))))
 
-  pub operator-ends : (x : Op × ℕ) → operatorAt bs at ≡ gives x → Ends bs at x
+  pub operator-ends : (x : Op × ℕ) → operatorAt bs at ≡ gives x → EndsWithin bs at x
   unfolding operatorAt
   operator-ends x e = operator-given (word bs at 2) .given x e

@@ -15,7 +15,7 @@ use Rattle.cells.proofs.Cut.{fits-cut, fits-there, fits-room}
 use Rattle.plan_records.specs.declared.Operator.{Operator}
 use Rattle.plan_records.specs.declared.Reading.{Reading}
 use Rattle.plan_records.specs.declared.Reading.the-variants.{Sound, Unsound}
-use Rattle.plan_records.specs.Decoded.{operatorOf, readingOf, Stands, Standing, Means}
+use Rattle.plan_records.specs.Decoded.{operatorOf, readingOf, ColumnsStand, ReadingStands, Means}
 
 module _ (bs : List ℕ) (at : ℕ) where
   cut-bytes : (n : ℕ) (a : Attempt Op) → fits bs at n ≡ false → sized bs at n a ≡ fails
@@ -30,7 +30,7 @@ module _ (bs : List ℕ) (at : ℕ) where
       cut-bytes m a (lt-leb (at + m) (length bs) (omega arith))
 
   pub none-reads : (x : Attempt (Op × ℕ)) → x ≡ fails → Means bs Unsound x
-  unfolding readingOf Standing
+  unfolding readingOf ReadingStands
   none-reads x e = record { means = sym e; stands = tt }
 
   pub bad-reads : (n : ℕ) (a : Attempt Op) → a ≡ fails → Means bs Unsound (sized bs at n a)
@@ -53,7 +53,7 @@ module _ (bs : List ℕ) (at : ℕ) where
 
     pub sound-reads :
         (a : Attempt Op) (r : Reading) (o : Operator) → not t ≡ false →
-        r ≡ Sound (record { operator = o; next = at + n }) → Stands bs o → a ≡ gives (operatorOf bs o) →
+        r ≡ Sound (record { operator = o; next = at + n }) → ColumnsStand bs o → a ≡ gives (operatorOf bs o) →
         Means bs r (sized bs at n a)
-    unfolding readingOf Standing sized provided attempt
+    unfolding readingOf ReadingStands sized provided attempt
     sound-reads a r o h p s q = rw (p, fits-there t bs at n e h, q) (record { means = refl; stands = s })

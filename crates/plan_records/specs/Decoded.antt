@@ -1,8 +1,8 @@
 -- What the answers of the code stand for in document 01 ('Plan operators', 'The eight refusals').
 --     operatorOf bs o     an operator of the code as one of the definitions; its columns and keys stand in the bytes bs
 --     readingOf bs r      what reading at an offset found: the operator and the offset after it, or failing
---     Stands bs o         the columns of Project and the keys of Number stand within the bytes
---     Standing bs r       the same of what reading found
+--     ColumnsStand bs o   the columns of Project and the keys of Number stand within the bytes
+--     ReadingStands bs r   the same of what reading found
 --     Means bs r a        what reading found is the attempt a of the definitions, and its columns are within the bytes
 use Prim.Native.Nat.{ℕ, _+_, _≤_}
 use mathlib.Core.Path.{_≡_}
@@ -36,28 +36,28 @@ unfoldable pub readingOf : List ℕ → Reading → Attempt (Op × ℕ)
 readingOf bs (Reading.Sound d) = gives (operatorOf bs (d .operator), d .next)
 readingOf bs Reading.Unsound = fails
 
-unfoldable pub Stands : List ℕ → Operator → Type 0
-Stands bs Operator.One = Unit {0}
-Stands bs (Operator.Attach t z) = Unit {0}
-Stands bs (Operator.Project t n from) = from + n ≤ length bs
-Stands bs (Operator.Union t u) = Unit {0}
-Stands bs (Operator.Minus t u) = Unit {0}
-Stands bs (Operator.Select t c) = Unit {0}
-Stands bs (Operator.Join t c u d) = Unit {0}
-Stands bs (Operator.Number t p n from) = from + n ≤ length bs
-Stands bs (Operator.Apply t f c d) = Unit {0}
-Stands bs (Operator.Value t c) = Unit {0}
-Stands bs (Operator.Counts t c) = Unit {0}
-Stands bs (Operator.Truths t) = Unit {0}
-Stands bs (Operator.Once t c) = Unit {0}
-Stands bs (Operator.Step t x y) = Unit {0}
-Stands bs (Operator.Root t k) = Unit {0}
+unfoldable pub ColumnsStand : List ℕ → Operator → Type 0
+ColumnsStand bs Operator.One = Unit {0}
+ColumnsStand bs (Operator.Attach t z) = Unit {0}
+ColumnsStand bs (Operator.Project t n from) = from + n ≤ length bs
+ColumnsStand bs (Operator.Union t u) = Unit {0}
+ColumnsStand bs (Operator.Minus t u) = Unit {0}
+ColumnsStand bs (Operator.Select t c) = Unit {0}
+ColumnsStand bs (Operator.Join t c u d) = Unit {0}
+ColumnsStand bs (Operator.Number t p n from) = from + n ≤ length bs
+ColumnsStand bs (Operator.Apply t f c d) = Unit {0}
+ColumnsStand bs (Operator.Value t c) = Unit {0}
+ColumnsStand bs (Operator.Counts t c) = Unit {0}
+ColumnsStand bs (Operator.Truths t) = Unit {0}
+ColumnsStand bs (Operator.Once t c) = Unit {0}
+ColumnsStand bs (Operator.Step t x y) = Unit {0}
+ColumnsStand bs (Operator.Root t k) = Unit {0}
 
-unfoldable pub Standing : List ℕ → Reading → Type 0
-Standing bs (Reading.Sound d) = Stands bs (d .operator)
-Standing bs Reading.Unsound = Unit {0}
+unfoldable pub ReadingStands : List ℕ → Reading → Type 0
+ReadingStands bs (Reading.Sound d) = ColumnsStand bs (d .operator)
+ReadingStands bs Reading.Unsound = Unit {0}
 
 -- what reading promises
 pub record Means (bs : List ℕ) (r : Reading) (a : Attempt (Op × ℕ)) : Type 0 where
   pub means : readingOf bs r ≡ a
-  pub stands : Standing bs r
+  pub stands : ReadingStands bs r

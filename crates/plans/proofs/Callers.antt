@@ -24,7 +24,7 @@ use Rattle.laws.specs.Attempt.{unless}
 use Rattle.meaning.specs.Plan.{Placed, columnsAt, tableWidth, widthOf, operatorAt, placedAt, lastOf, ended}
 use Rattle.meaning.specs.Plan.{planFrom, planRead}
 use Rattle.laws.proofs.Outcomes.{reads-same, refuses-reads, gives-same}
-use Rattle.theorems.specs.PlanFields.{Own, Width}
+use Rattle.theorems.specs.PlanFields.{Own, WidthFits}
 use Rattle.theorems.specs.PlanWidths.{Every}
 use Rattle.theorems.proofs.PlanWidths.{attempt-gives, provided-gives}
 use Rattle.laws.proofs.Booleans.{both-true}
@@ -35,8 +35,8 @@ use Rattle.plan_records.specs.declared.Reading.{Reading as Read}
 use Rattle.plan_records.specs.declared.Reading.the-variants as Read
 use Rattle.plans.specs.declared.Checked.{Checked}
 use Rattle.plans.specs.declared.Checked.the-variants.{Operators, Unsound}
-use Rattle.plans.specs.declared.widths.Operands.the-variants.{None, Of}
-use Rattle.plan_records.specs.Decoded.{operatorOf, Stands, Means}
+use Rattle.plans.specs.declared.widths.TableOperands.the-variants.{None, Of}
+use Rattle.plan_records.specs.Decoded.{operatorOf, ColumnsStand, Means}
 use Rattle.plans.specs.Widths.{tablesOf, suitable, madeWidth}
 use Rattle.plans.specs.Walk.{checked, planCount}
 use Rattle.theorems.specs.PlanRead.{widthsOf}
@@ -73,7 +73,7 @@ module _ (bs : List ℕ) (c : Checked) (e : checked c ≡ planCount bs) where
 
 -- What is read from an offset on: those done, then others; at most so many; the last of width 3
 
-record Whole (done : List Placed) (left : ℕ) (ps : List Placed) : Type 0 where
+record WholePlan (done : List Placed) (left : ℕ) (ps : List Placed) : Type 0 where
   others : List Placed
   front : ps ≡ done ++ others
   few : length others ≤ left
@@ -88,7 +88,7 @@ ended-same (p ∷ qs) ps e = go (eqb (lastOf p qs .width) 3) e
     go true e = reads-same e
     go false e = absurd (refuses-reads 5 _ ps e)
 
-ended-whole : (done : List Placed) (left : ℕ) (ps : List Placed) → ended done ≡ reads ps → Whole done left ps
+ended-whole : (done : List Placed) (left : ℕ) (ps : List Placed) → ended done ≡ reads ps → WholePlan done left ps
 ended-whole done left ps e =
     let s = ended-same done ps e in
     record {
@@ -99,8 +99,8 @@ ended-whole done left ps e =
     }
 
 whole-on :
-    (done : List Placed) (p : Placed) (left : ℕ) (ps : List Placed) → Whole (done ++ (p ∷ [])) left ps →
-    Whole done (suc left) ps
+    (done : List Placed) (p : Placed) (left : ℕ) (ps : List Placed) → WholePlan (done ++ (p ∷ [])) left ps →
+    WholePlan done (suc left) ps
 whole-on done p left ps k =
     record {
       others = p ∷ k .others;
@@ -111,37 +111,39 @@ whole-on done p left ps k =
 
 from-whole :
     (left : ℕ) (bs : List ℕ) (done : List Placed) (at : ℕ) (ps : List Placed) →
-    planFrom left bs done at ≡ reads ps → Whole done left ps
+    planFrom left bs done at ≡ reads ps → WholePlan done left ps
 unfolding planFrom reading refusing
 from-whole zero bs done at ps e = go (leb (length bs) at) e
   where
-    go : (t : Bool) → elim t [ true ↦ ended done | false ↦ refuses 5 at ] ≡ reads ps → Whole done zero ps
+    go : (t : Bool) → elim t [ true ↦ ended done | false ↦ refuses 5 at ] ≡ reads ps → WholePlan done zero ps
     go true e = ended-whole done zero ps e
     go false e = absurd (refuses-reads 5 at ps e)
 from-whole (suc left) bs done at ps e =
     go (from-whole left bs) (placedAt bs (widthsOf done) at) (leb (length bs) at) e
   where
     on :
-        ((done : List Placed) (at : ℕ) (ps : List Placed) → planFrom left bs done at ≡ reads ps → Whole done left ps) →
+        ((done : List Placed) (at : ℕ) (ps : List Placed) → planFrom left bs done at ≡ reads ps
+        → WholePlan done left ps) →
         (a : Attempt (Placed × ℕ)) →
         reading (refusing 5 at a) (λ o. planFrom left bs (done ++ (o .0 ∷ [])) (o .1)) ≡ reads ps →
-        Whole done (suc left) ps
+        WholePlan done (suc left) ps
     on ih fails e = absurd (refuses-reads 5 at ps e)
     on ih (gives (p, next)) e = whole-on done p left ps (ih (done ++ (p ∷ [])) next ps e)
 
     go :
-        ((done : List Placed) (at : ℕ) (ps : List Placed) → planFrom left bs done at ≡ reads ps → Whole done left ps) →
+        ((done : List Placed) (at : ℕ) (ps : List Placed) → planFrom left bs done at ≡ reads ps
+        → WholePlan done left ps) →
         (a : Attempt (Placed × ℕ)) (t : Bool) →
         elim t [
           | true ↦ ended done
           | false ↦ reading (refusing 5 at a) (λ o. planFrom left bs (done ++ (o .0 ∷ [])) (o .1))
         ] ≡ reads ps →
-        Whole done (suc left) ps
+        WholePlan done (suc left) ps
     go ih a true e = ended-whole done (suc left) ps e
     go ih a false e = on ih a e
 
 module _ (bs : List ℕ) (ps : List Placed) (e : planRead bs ≡ reads ps) where
-  all-read : Whole [] 512 ps
+  all-read : WholePlan [] 512 ps
   unfolding planRead
   all-read = from-whole 512 bs [] 0 ps e
 
@@ -169,7 +171,7 @@ module _ (bs : List ℕ) (ps : List Placed) (e : planRead bs ≡ reads ps) where
 
 -- The walk
 
-every-at : (ws : List ℕ) (t : ℕ) → Every Width ws → t < length ws → Width (getD ws t 0)
+every-at : (ws : List ℕ) (t : ℕ) → Every WidthFits ws → t < length ws → WidthFits (getD ws t 0)
 unfolding Every
 every-at [] t e h = absurd (omega arith)
 every-at (w ∷ ws) zero e h = e .0
@@ -182,7 +184,7 @@ module _ {bs : List ℕ} {done rest : List Placed} {at : ℕ} (k : Ahead bs done
       append-cancel-left done rest [] (sym s ∙ sym (append-nil done))
 
   -- every table so far is 1 to 6 wide
-  pub ahead-width : (t : ℕ) → t < length done → Width (getD (widthsOf done) t 0)
+  pub ahead-width : (t : ℕ) → t < length done → WidthFits (getD (widthsOf done) t 0)
   ahead-width t h = every-at (widthsOf done) t (k .walk .each) (omega (arith, widths-length done))
 
   module _ (h : at < length bs) where
@@ -251,15 +253,15 @@ table-is ws t w e =
     (ltb-true t (length ws) p, gives-same q)
 
 pub no-table :
-    (bs ws : List ℕ) (o : Operator) (x : ℕ) → Stands bs o → widthOf ws (operatorOf bs o) ≡ gives x →
+    (bs ws : List ℕ) (o : Operator) (x : ℕ) → ColumnsStand bs o → widthOf ws (operatorOf bs o) ≡ gives x →
     tablesOf o ≡ None → x ≡ 1
 unfolding widthBy
 no-table bs ws o x s e q = sym (gives-same (sym (ap (widthBy bs ws o) q) ∙ sym (width-by bs ws o s) ∙ e))
 
 suited-all :
-    (bs : List ℕ) (o : Operator) (w v : ℕ) → Stands bs o → Own (operatorOf bs o) →
+    (bs : List ℕ) (o : Operator) (w v : ℕ) → ColumnsStand bs o → Own (operatorOf bs o) →
     suitable (operatorOf bs o) w v ≡ true → Suited bs o w v
-unfolding Suited suitable operatorOf Own Stands
+unfolding Suited suitable operatorOf Own ColumnsStand
 suited-all bs Operator.One w v s k e = tt
 suited-all bs (Operator.Attach t z) w v s k e = (leb-true (w + 1) 6 e, k)
 suited-all bs (Operator.Project t n from) w v s k e =
@@ -291,7 +293,7 @@ suited-all bs (Operator.Step t x y) w v s k e = (eqb-true w 2 e, k)
 suited-all bs (Operator.Root t i) w v s k e = (leb-true (w + 1) 6 e, k .0, k .1)
 
 pub fitting :
-    (bs ws : List ℕ) (o : Operator) (x : ℕ) → Stands bs o → Own (operatorOf bs o) →
+    (bs ws : List ℕ) (o : Operator) (x : ℕ) → ColumnsStand bs o → Own (operatorOf bs o) →
     widthOf ws (operatorOf bs o) ≡ gives x → (t u : ℕ) → tablesOf o ≡ Of t u → Fitting bs ws o t u x
 unfolding widthBy
 fitting bs ws o x s k e t u q =

@@ -16,7 +16,7 @@ use lib.ListN.{length, getD, take, set, length-append, length-set}
 use lib.Seq.{take-suc-set, getD-take}
 use Rattle.laws.specs.Attempt.{fails, gives, refuses, reads, reading, unless}
 use Rattle.meaning.specs.Plan.{Op, Placed, operatorAt, widthOf, lastOf, ended, planRead}
-use Rattle.theorems.specs.PlanFields.{Width}
+use Rattle.theorems.specs.PlanFields.{WidthFits}
 use Rattle.theorems.specs.PlanWidths.{Every}
 use Rattle.plan_records.specs.declared.Decoded.{Decoded}
 use Rattle.plan_records.specs.declared.Reading.{Reading as Read}
@@ -24,7 +24,7 @@ use Rattle.plan_records.specs.declared.Reading.the-variants as Read
 use Rattle.plans.specs.declared.Checked.the-variants.{Operators, Unsound}
 use Rattle.plans.specs.declared.widths.Width.{Width as Found}
 use Rattle.plans.specs.declared.widths.Width.the-variants as Found
-use Rattle.plan_records.specs.Decoded.{operatorOf, readingOf, Stands, Standing, Means}
+use Rattle.plan_records.specs.Decoded.{operatorOf, readingOf, ColumnsStand, ReadingStands, Means}
 use Rattle.plans.specs.Widths.{widthField}
 use Rattle.plans.specs.Walk.{checked, planCount, lastAt, Walk, Checking}
 use Rattle.theorems.specs.PlanRead.{widthsOf}
@@ -53,13 +53,13 @@ module _ (bs : List ℕ) (at : ℕ) (r : Read) (m : Means bs r (operatorAt bs at
     unfolding readingOf
     found = sym (m .means) ∙ ap (readingOf bs) h
 
-    pub found-stands : Stands bs (f .operator)
-    unfolding Standing
+    pub found-stands : ColumnsStand bs (f .operator)
+    unfolding ReadingStands
     found-stands = rw h at (m .stands)
 
 -- One turn
 
-pub last-each : (xs : List ℕ) (w : ℕ) → Every Width (xs ++ (w ∷ [])) → Width w
+pub last-each : (xs : List ℕ) (w : ℕ) → Every WidthFits (xs ++ (w ∷ [])) → WidthFits w
 unfolding Every
 last-each [] w h = h .0
 last-each (x ∷ xs) w h = last-each xs w (h .1)

@@ -15,13 +15,13 @@ use Rattle.laws.specs.Attempt.{Attempt, fails, gives, attempt, provided}
 use Rattle.meaning.specs.Plan.{columns, columnsAt, tableWidth, upTo6, widthOf}
 use Rattle.plan_records.specs.declared.Operator.{Operator}
 use Rattle.plan_records.specs.declared.Operator.the-variants as Operator
-use Rattle.plans.specs.declared.widths.Operands.{Operands}
-use Rattle.plans.specs.declared.widths.Operands.the-variants.{None, Of}
-use Rattle.plan_records.specs.Decoded.{operatorOf, Stands}
+use Rattle.plans.specs.declared.widths.TableOperands.{TableOperands}
+use Rattle.plans.specs.declared.widths.TableOperands.the-variants.{None, Of}
+use Rattle.plan_records.specs.Decoded.{operatorOf, ColumnsStand}
 use Rattle.plans.specs.Widths.{tablesOf, suitable, madeWidth}
 use Rattle.plan_records.proofs.Columns.{columns-length}
 
-unfoldable pub widthBy : List ℕ → List ℕ → Operator → Operands → Attempt ℕ
+unfoldable pub widthBy : List ℕ → List ℕ → Operator → TableOperands → Attempt ℕ
 widthBy bs ws o None = gives 1
 widthBy bs ws o (Of t u) =
     attempt (tableWidth ws t)
@@ -49,8 +49,8 @@ two (gives w) fails f g h = refl
 two (gives w) (gives v) f g h = h w v
 
 pub width-by :
-    (bs ws : List ℕ) (o : Operator) → Stands bs o → widthOf ws (operatorOf bs o) ≡ widthBy bs ws o (tablesOf o)
-unfolding widthOf operatorOf widthBy tablesOf suitable madeWidth upTo6 Stands
+    (bs ws : List ℕ) (o : Operator) → ColumnsStand bs o → widthOf ws (operatorOf bs o) ≡ widthBy bs ws o (tablesOf o)
+unfolding widthOf operatorOf widthBy tablesOf suitable madeWidth upTo6 ColumnsStand
 width-by bs ws Operator.One s = refl
 width-by bs ws (Operator.Attach t z) s = one (tableWidth ws t) _ _ (λ w. refl)
 width-by bs ws (Operator.Project t n from) s =
@@ -91,9 +91,9 @@ module _ (ws : List ℕ) (n t : ℕ) (h : n ≤ length ws) where
       rw (l, lt-ltb t n k, getD-take)
 
 module _
-    (bs ws : List ℕ) (n : ℕ) (h : n ≤ length ws) (o : Operator) (s : Stands bs o)
-    (x : Operands) (e : x ≡ tablesOf o) where
-  by : (y : Operands) → x ≡ y → widthBy bs (take n ws) o y ≡ widthOf (take n ws) (operatorOf bs o)
+    (bs ws : List ℕ) (n : ℕ) (h : n ≤ length ws) (o : Operator) (s : ColumnsStand bs o)
+    (x : TableOperands) (e : x ≡ tablesOf o) where
+  by : (y : TableOperands) → x ≡ y → widthBy bs (take n ws) o y ≡ widthOf (take n ws) (operatorOf bs o)
   by y p = ap (widthBy bs (take n ws) o) (sym p ∙ e) ∙ sym (width-by bs (take n ws) o s)
 
   pub width-none : x ≡ None → gives 1 ≡ widthOf (take n ws) (operatorOf bs o)

@@ -10,18 +10,18 @@ use lib.ListN.{length}
 use Rattle.meaning.specs.Plan.{columns, columnsAt}
 use Rattle.plan_records.specs.declared.Operator.{Operator}
 use Rattle.plan_records.specs.declared.Operator.the-variants as Operator
-use Rattle.plan_records.specs.Decoded.{operatorOf, Stands}
+use Rattle.plan_records.specs.Decoded.{operatorOf, ColumnsStand}
 use Rattle.plans.specs.Widths.{suitable}
 use Rattle.plan_records.proofs.Columns.{columns-length}
 
-module _ (bs : List ℕ) (o : Operator) (s : Stands bs o) where
+module _ (bs : List ℕ) (o : Operator) (s : ColumnsStand bs o) where
   pub stands-project : (t n from : ℕ) → o ≡ Operator.Project t n from → from + n ≤ length bs
-  unfolding Stands
-  stands-project t n from e = subst (Stands bs) e s
+  unfolding ColumnsStand
+  stands-project t n from e = subst (ColumnsStand bs) e s
 
   pub stands-number : (t p n from : ℕ) → o ≡ Operator.Number t p n from → from + n ≤ length bs
-  unfolding Stands
-  stands-number t p n from e = subst (Stands bs) e s
+  unfolding ColumnsStand
+  stands-number t p n from e = subst (ColumnsStand bs) e s
 
   module _ (w v : ℕ) where
     pub suits-project :

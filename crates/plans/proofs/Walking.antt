@@ -10,7 +10,7 @@ use native.Mathlib.Omega.{arith}
 use lib.ListN.{length, getD, length-append}
 use Rattle.laws.specs.Attempt.{fails, gives, attempt, refuses}
 use Rattle.meaning.specs.Plan.{Op, Placed, operatorAt, widthOf, placedAt, lastOf, ended, planFrom, planRead}
-use Rattle.theorems.specs.PlanFields.{Width}
+use Rattle.theorems.specs.PlanFields.{WidthFits}
 use Rattle.theorems.specs.PlanWidths.{Every, widths}
 use Rattle.theorems.proofs.PlanFields.{widths-checked}
 use Rattle.theorems.proofs.PlanSteps.{from-end, from-none, from-bad, from-on, placed-is}
@@ -101,7 +101,7 @@ module _ (bs : List ℕ) (done : List Placed) (at : ℕ) (k : Walk bs done at) w
           in
           record {
             few = omega (arith, n);
-            each = subst (Every Width) (sym (widths-more done x)) (z .1);
+            each = subst (Every WidthFits) (sym (widths-more done x)) (z .1);
             rest =
                 ap (λ (n : ℕ). planFrom n bs (done ++ (x ∷ [])) next) m
                 ∙ sym (from-on bs done at h (511 - length done) next x (placed-is bs (widthsOf done) at next o w p q))

@@ -14,11 +14,11 @@ use Rattle.cells.specs.Cell.{held}
 use Rattle.laws.specs.Attempt.{gives, reads}
 use Rattle.codes.specs.Codes.{testName}
 use Rattle.meaning.specs.Plan.{Placed, plainIn, columnsAt, columns, widthOf, planRead}
-use Rattle.theorems.specs.PlanFields.{Own, Width}
+use Rattle.theorems.specs.PlanFields.{Own, WidthFits}
 use Rattle.plan_records.specs.declared.Operator.{Operator}
 use Rattle.plan_records.specs.declared.Operator.the-variants as Operator
 use Rattle.plan_records.specs.declared.Decoded.{Decoded}
-use Rattle.plan_records.specs.Decoded.{operatorOf, Stands}
+use Rattle.plan_records.specs.Decoded.{operatorOf, ColumnsStand}
 use Rattle.plans.specs.Widths.{madeWidth}
 use Rattle.plans.specs.Walk.{Walk}
 use Rattle.theorems.specs.PlanRead.{widthsOf}
@@ -61,10 +61,10 @@ pub record Turn (bs : List ℕ) (done rest : List Placed) (at : ℕ) (f : Decode
   pub after : List Placed
   pub rest-is : rest ≡ placed bs at (f .operator) width ∷ after
   pub few : length done < 512
-  pub stands : Stands bs (f .operator)
+  pub stands : ColumnsStand bs (f .operator)
   pub own : Own (operatorOf bs (f .operator))
   pub fits : widthOf (widthsOf done) (operatorOf bs (f .operator)) ≡ gives width
-  pub wide : Width width
+  pub wide : WidthFits width
   pub further : at < f .next
   pub within : f .next ≤ length bs
   pub on : Ahead bs (done ++ (placed bs at (f .operator) width ∷ [])) after (f .next)

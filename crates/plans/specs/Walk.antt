@@ -10,7 +10,7 @@ use mathlib.Core.List.{List, [], _∷_}
 use lib.ListN.{length, take}
 use Rattle.laws.specs.Attempt.{Reading, refuses, reads, reading}
 use Rattle.meaning.specs.Plan.{Placed, lastOf, planFrom, planRead}
-use Rattle.theorems.specs.PlanFields.{Width}
+use Rattle.theorems.specs.PlanFields.{WidthFits}
 use Rattle.theorems.specs.PlanRead.{widthsOf}
 use Rattle.theorems.specs.PlanWidths.{Every}
 use Rattle.plans.specs.declared.Checked.{Checked}
@@ -29,7 +29,7 @@ lastAt (p ∷ ps) = lastOf p ps .at
 
 pub record Walk (bs : List ℕ) (done : List Placed) (at : ℕ) : Type 0 where
   pub few : length done ≤ 512
-  pub each : Every Width (widthsOf done)
+  pub each : Every WidthFits (widthsOf done)
   pub rest : planFrom (512 - length done) bs done at ≡ planRead bs
 
 pub record Checking (bs ws : List ℕ) (at n last : ℕ) : Type 0 where

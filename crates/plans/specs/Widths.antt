@@ -11,12 +11,12 @@ use Rattle.laws.specs.Attempt.{Attempt, fails, gives}
 use Rattle.meaning.specs.Plan.{Op, RT, RA, RP, RU, RD, RS, RJ, RN, RF, RV, RC, RE, RK, RX, RO, columns}
 use Rattle.plan_records.specs.declared.Operator.{Operator}
 use Rattle.plan_records.specs.declared.Operator.the-variants as Operator
-use Rattle.plans.specs.declared.widths.Operands.{Operands}
-use Rattle.plans.specs.declared.widths.Operands.the-variants.{None, Of}
+use Rattle.plans.specs.declared.widths.TableOperands.{TableOperands}
+use Rattle.plans.specs.declared.widths.TableOperands.the-variants.{None, Of}
 use Rattle.plans.specs.declared.widths.Width.{Width}
 use Rattle.plans.specs.declared.widths.Width.the-variants.{Is, Unsound}
 
-unfoldable pub tablesOf : Operator → Operands
+unfoldable pub tablesOf : Operator → TableOperands
 tablesOf Operator.One = None
 tablesOf (Operator.Attach t z) = Of t t
 tablesOf (Operator.Project t n from) = Of t t

@@ -3,13 +3,13 @@ ghost use mathlib.Core.Path.{_≡_};
 ghost use Prim.Native.Nat.{_+_, _≤_, _<_};
 ghost use lib.ListN.{length, take};
 ghost use Rattle.meaning.specs.Plan;
-ghost use Rattle.plan_records.specs.Decoded.{operatorOf, Stands};
+ghost use Rattle.plan_records.specs.Decoded.{operatorOf, ColumnsStand};
 ghost use Rattle.plans.specs.Widths;
 use cells::byte;
 use plan_records::Operator;
 
 // The tables that an operator names: none, or t and u; u is t where it names only one.
-pub enum Operands {
+pub enum TableOperands {
     None,
     Of(usize, usize),
 }
@@ -21,39 +21,39 @@ pub enum Width {
 }
 
 // The tables that an operator names.
-pub fn tables(operator: Operator) -> Operands
+pub fn tables(operator: Operator) -> TableOperands
     ensures { λ r. ⌜ r ≡ Widths.tablesOf operator ⌝ }
 {
     match operator {
-        Operator::One => Operands::None,
-        Operator::Attach { t, cell: _ } => Operands::Of(t, t),
-        Operator::Project { t, n: _, from: _ } => Operands::Of(t, t),
-        Operator::Union { t, u } => Operands::Of(t, u),
-        Operator::Minus { t, u } => Operands::Of(t, u),
-        Operator::Select { t, c: _ } => Operands::Of(t, t),
-        Operator::Join { t, c: _, u, d: _ } => Operands::Of(t, u),
+        Operator::One => TableOperands::None,
+        Operator::Attach { t, cell: _ } => TableOperands::Of(t, t),
+        Operator::Project { t, n: _, from: _ } => TableOperands::Of(t, t),
+        Operator::Union { t, u } => TableOperands::Of(t, u),
+        Operator::Minus { t, u } => TableOperands::Of(t, u),
+        Operator::Select { t, c: _ } => TableOperands::Of(t, t),
+        Operator::Join { t, c: _, u, d: _ } => TableOperands::Of(t, u),
         Operator::Number {
             t,
             p: _,
             n: _,
             from: _,
-        } => Operands::Of(t, t),
+        } => TableOperands::Of(t, t),
         Operator::Apply {
             t,
             f: _,
             c: _,
             d: _,
-        } => Operands::Of(t, t),
-        Operator::Value { t, c: _ } => Operands::Of(t, t),
-        Operator::Counts { t, c: _ } => Operands::Of(t, t),
-        Operator::Truths { t } => Operands::Of(t, t),
-        Operator::Once { t, c: _ } => Operands::Of(t, t),
+        } => TableOperands::Of(t, t),
+        Operator::Value { t, c: _ } => TableOperands::Of(t, t),
+        Operator::Counts { t, c: _ } => TableOperands::Of(t, t),
+        Operator::Truths { t } => TableOperands::Of(t, t),
+        Operator::Once { t, c: _ } => TableOperands::Of(t, t),
         Operator::Step {
             t,
             axis: _,
             test: _,
-        } => Operands::Of(t, t),
-        Operator::Root { t, k: _ } => Operands::Of(t, t),
+        } => TableOperands::Of(t, t),
+        Operator::Root { t, k: _ } => TableOperands::Of(t, t),
     }
 }
 
@@ -77,7 +77,7 @@ fn below(plan: &[u8], from: usize, n: usize, w: usize) -> bool
 // Whether an operator suits tables of widths w and v: its columns are columns, the widths are those it asks for, and
 // its own table is not too wide.
 fn suits(plan: &[u8], operator: Operator, w: usize, v: usize) -> bool
-    requires { ⌜ Stands (now plan) operator × (w < 256) × (v < 256) ⌝ }
+    requires { ⌜ ColumnsStand (now plan) operator × (w < 256) × (v < 256) ⌝ }
     ensures { λ r. ⌜ r ≡ Widths.suitable (operatorOf (now (plan .entry)) operator) w v ⌝ }
 {
     match operator {
@@ -150,11 +150,11 @@ pub fn made_width(operator: Operator, w: usize, v: usize) -> usize
 
 // The width of an operator's table after n tables, whose widths stand first in a lent slice.
 pub fn width_of(plan: &[u8], operator: Operator, widths: &[u8], n: usize) -> Width
-    requires { ⌜ Stands (now plan) operator × (n ≤ length (now widths)) ⌝ }
+    requires { ⌜ ColumnsStand (now plan) operator × (n ≤ length (now widths)) ⌝ }
     ensures { λ r. ⌜ Widths.widthField r ≡
         Plan.widthOf (take n (now (widths .entry))) (operatorOf (now (plan .entry)) operator) ⌝ }
 {
-    let Operands::Of(t, u) = tables(operator) else {
+    let TableOperands::Of(t, u) = tables(operator) else {
         return Width::Is(1);
     };
     if n <= t {

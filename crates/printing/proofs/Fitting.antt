@@ -34,7 +34,7 @@ use Rattle.agreement.proofs.Answers.{last-three, room-lent, found-same, plan-lo
 use Rattle.lines.specs.declared.Told.{Told}
 use Rattle.lines.specs.Text.{refusedWith}
 use Rattle.lines.specs.Printed.{valueOf, toldBy}
-use Rattle.lines.specs.Placed.{Stands, roomFor}
+use Rattle.lines.specs.Placed.{GaveStands, roomFor}
 use Rattle.printing.specs.Engines.{second, Within}
 use Rattle.printing.proofs.Keeping.{rows-stand, rows-room}
 
@@ -83,8 +83,8 @@ run-within bytes doc lent a e =
 
 outcome-stands : (lent : ℕ) (m : Reading (Work Standing))
     → Found (λ k. (s : Standing) → k ≡ done s → length (s .items) ≤ lent) m
-    → Stands lent (toldBy 0 (evaluateOutcome lent m .answer))
-unfolding evaluateOutcome refusal toldBy Stands
+    → GaveStands lent (toldBy 0 (evaluateOutcome lent m .answer))
+unfolding evaluateOutcome refusal toldBy GaveStands
 outcome-stands lent (refuses n p) h = tt
 outcome-stands lent (reads (full p)) h = tt
 outcome-stands lent (reads (failed p)) h = tt
@@ -97,10 +97,10 @@ items-few lent w q s d =
     omega (arith, room-lent lent)
 
 pub items-stand : (query doc : List ℕ) (lent : ℕ) (a : Answer) → a ≡ evaluateCall query doc lent .answer
-    → Stands lent (toldBy 0 a)
+    → GaveStands lent (toldBy 0 a)
 unfolding evaluateCall
 items-stand query doc lent a e =
-    subst (λ (b : Answer). Stands lent (toldBy 0 b)) (sym e)
+    subst (λ (b : Answer). GaveStands lent (toldBy 0 b)) (sym e)
     (outcome-stands lent _
     (found-reading (found-same (queryRead query))
     (λ r _. found-reading (found-same (catalogueRead doc))
@@ -131,27 +131,27 @@ keep-fits bytes doc l m k a e h g j =
 
 -- what the evaluator gave, where it was asked
 second-stands : (a : Answer) (cells : List ℤ) (query doc : List ℕ)
-    → Stands (length cells) (toldBy 0 (second a cells query doc .answer))
-unfolding second refusedWith toldBy Stands
+    → GaveStands (length cells) (toldBy 0 (second a cells query doc .answer))
+unfolding second refusedWith toldBy GaveStands
 second-stands (gives ns) cells query doc = items-stand query doc (length cells) _ refl
 second-stands (refused n p) cells query doc = by-test (eqb n 6)
   where
     by-test : (b : Bool) →
         let o : Outcome ℤ =
         cond b (record { answer = refused n p; left = cells }) (evaluateCall query doc (length cells)) in
-        Stands (length cells) (toldBy 0 (o .answer))
+        GaveStands (length cells) (toldBy 0 (o .answer))
     by-test true = tt
     by-test false = items-stand query doc (length cells) _ refl
 
 pub write-fits : (query bytes doc : List ℕ) (l n k j t : ℕ) (ra : Answer) (cells : List ℤ) (ran evaluated : Told)
     → ran ≡ toldBy 1 ra → evaluated ≡ toldBy 0 (second ra cells query doc .answer) → ra ≡ runCall bytes doc l .answer
     → l ≡ 8192 → n ≡ length cells → 2730 ≤ k → j ≡ k → 87488 ≤ t
-    → ((128 ≤ t) × (roomFor ran ≤ t)) × (Stands j ran × Stands n evaluated)
+    → ((128 ≤ t) × (roomFor ran ≤ t)) × (GaveStands j ran × GaveStands n evaluated)
 write-fits query bytes doc l n k j t ra cells ran evaluated hr he ha hl hn hk hj ht =
     let w = run-within bytes doc l ra ha in (
       (omega arith, subst (λ (x : Told). roomFor x ≤ t) (sym hr) (rows-room ra t (omega arith) ht)),
       (
-        subst (Stands j) (sym hr) (rows-stand ra j (omega arith)),
-        subst₂ Stands (sym hn) (sym he) (second-stands ra cells query doc),
+        subst (GaveStands j) (sym hr) (rows-stand ra j (omega arith)),
+        subst₂ GaveStands (sym hn) (sym he) (second-stands ra cells query doc),
       ),
     )

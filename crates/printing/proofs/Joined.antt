@@ -30,7 +30,7 @@ use Rattle.lines.specs.Printed.{valueOf, toldBy, runItems, printed}
 use Rattle.lines.specs.Placed.{Put}
 use Rattle.lines.proofs.Lines.{text-room}
 use Rattle.lines.proofs.Putting.{put-is, put-text, put-length}
-use Rattle.printing.specs.Engines.{engines, second, planned, planRun, Ends, Tells}
+use Rattle.printing.specs.Engines.{engines, second, planned, planRun, TextEnds, TellsText}
 use Rattle.printing.proofs.NeverNo.{never-no}
 use Rattle.printing.proofs.Fitting.{plan-within}
 use Rattle.printing.proofs.Keeping.{itemsOf, text-kept}
@@ -152,7 +152,7 @@ module _ (x : Translated) (told : Told) (query doc bytes : List ℕ) (l : ℕ) (
 
   pub tells-refused : (ran evaluated : Told) (xs ys : List ℤ) → OneOf (1 ∷ 2 ∷ 3 ∷ 4 ∷ []) (tagOf the-type x)
       → Put text text′ 0 (Text.text told ran xs evaluated ys) k
-      → Tells query doc bytes work work kept kept text text′ k
+      → TellsText query doc bytes work work kept kept text text′ k
   tells-refused ran evaluated xs ys h p =
       let (put, prints, within, never) =
       text-put query doc text text′ _ k small p
@@ -168,8 +168,8 @@ module _ (x : Translated) (told : Told) (query doc bytes : List ℕ) (l : ℕ) (
       }
 
   pub tells-plan : (n m : ℕ) (work′ kept′ : List ℤ) → x ≡ Plan n m
-      → Ends told query (take (m - 0) bytes) doc kept kept′ work′ text text′ k
-      → Tells query doc bytes work work′ kept kept′ text text′ k
+      → TextEnds told query (take (m - 0) bytes) doc kept kept′ work′ text text′ k
+      → TellsText query doc bytes work work′ kept kept′ text text′ k
   unfolding planned answered valueOf
   tells-plan n m work′ kept′ e p =
       let g : translateCall query 6144 .answer ≡ gives (n ∷ m ∷ []) = sym theirs ∙ ap answered e in

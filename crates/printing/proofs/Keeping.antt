@@ -26,7 +26,7 @@ use Rattle.lines.specs.declared.Told.{Told}
 use Rattle.lines.specs.declared.Told.the-variants.{Gave, Refused}
 use Rattle.lines.specs.Text.{firstLines, refusedWith, agree, verdict, text}
 use Rattle.lines.specs.Printed.{valueOf, toldBy}
-use Rattle.lines.specs.Placed.{Stands, roomFor}
+use Rattle.lines.specs.Placed.{GaveStands, roomFor}
 use Rattle.lines.proofs.Kept.{length-column}
 use Rattle.printing.specs.Engines.{second, Within}
 
@@ -91,8 +91,8 @@ asked ran cells zs query doc a told h d e f =
 
 -- Printing
 
-pub rows-stand : (a : Answer) (l : ℕ) → valueOf 1 a ≤ l → Stands l (toldBy 1 a)
-unfolding valueOf toldBy Stands
+pub rows-stand : (a : Answer) (l : ℕ) → valueOf 1 a ≤ l → GaveStands l (toldBy 1 a)
+unfolding valueOf toldBy GaveStands
 rows-stand (gives ns) l h = h
 rows-stand (refused n p) l h = tt
 

@@ -24,7 +24,7 @@ use Rattle.meaning.specs.Written.{written}
 use Rattle.meaning.specs.Calls.{Answer, gives, refused, Outcome, refusal, planOf, catalogueAnswer, catalogueCall}
 use Rattle.meaning.specs.Calls.{translateOutcome, translateCall, runOutcome, runCall, evaluateOutcome, evaluateCall}
 use Rattle.theorems.proofs.PlanRead.{query-plan-back, translated}
-use Rattle.theorems.specs.PlanRead.{Translated}
+use Rattle.theorems.specs.PlanRead.{TranslatedPlan}
 use Rattle.agreement.specs.Passing.{means, Refused as RefusedBy, itemsAt, Alike, bothFail, bothGive}
 use Rattle.agreement.proofs.Encoded.{sameRow-self}
 use Rattle.agreement.proofs.EnginesAgree.{agree-in-hand}
@@ -112,7 +112,7 @@ module _ (doc query : List ℕ) (small : Bytes query) (n m : ℕ)
   unfolding catalogueCall catalogueAnswer
   never-differs d = by-catalogue (catalogueRead doc) refl
     where
-      t : Translated query 6144 n m
+      t : TranslatedPlan query 6144 n m
       t = translated query 6144 n m told
 
       by-catalogue : (c : Reading Catalogue) → catalogueRead doc ≡ c → ⊥

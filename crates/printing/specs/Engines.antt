@@ -8,8 +8,8 @@
 --     planned a x y                x where the translator gave a plan, y where it refused
 --     planRun query doc            the run of the query's plan
 --     Within a lent                the rows of the last table stand in the lent cells
---     Ends ..                      what both engines' text, cells and kept items are at the end
---     Tells ..                     what `tell` leaves: the text and its end, and every byte and cell that was lent
+--     TextEnds ..                  what both engines' text, cells and kept items are at the end
+--     TellsText ..                 what `tell` leaves: the text and its end, and every byte and cell that was lent
 use Prim.Native.Nat.{ℕ, _+_, _*_, _≤_}
 use mathlib.Core.Path.{_≡_}
 use mathlib.Core.List.{List}
@@ -45,14 +45,15 @@ abbrev pub Within : Answer → ℕ → Type 0
 Within a lent = valueOf 0 a + valueOf 1 a * 3 ≤ lent
 
 -- primed: at exit
-pub record Ends (t : Told) (query plan doc : List ℕ) (kept kept′ work′ : List ℤ) (text text′ : List ℕ) (n : ℕ) : Type 0
+pub record TextEnds (t : Told) (query plan doc : List ℕ) (kept kept′ work′ : List ℤ) (text text′ : List ℕ)
+    (n : ℕ) : Type 0
   where
     pub put : Put text text′ 0 (engines t query plan doc) n
     pub work : work′ ≡ second (runCall plan doc 8192 .answer) (runCall plan doc 8192 .left) query doc .left
     pub kept-items : kept′ ≡ laid kept 0 (runItems (runCall plan doc 8192))
 
 -- after a translator's refusal no engine is called: cells and kept items stay as they stood
-pub record Tells (query doc plan′ : List ℕ) (work work′ kept kept′ : List ℤ) (text text′ : List ℕ) (n : ℕ) : Type 0
+pub record TellsText (query doc plan′ : List ℕ) (work work′ kept kept′ : List ℤ) (text text′ : List ℕ) (n : ℕ) : Type 0
   where
     pub put : Put text text′ 0 (printed doc query) n
     pub prints : take n text′ ≡ printed doc query

@@ -12,7 +12,7 @@ ghost use Rattle.translator.specs.Answers as Translator;
 ghost use Rattle.runner.specs.Answers as Runner;
 ghost use Rattle.evaluator.specs.Answers as Evaluator;
 ghost use Rattle.lines.specs.Printed.{valueOf, toldBy};
-ghost use Rattle.printing.specs.Engines.{second, Within, Ends, Tells};
+ghost use Rattle.printing.specs.Engines.{second, Within, TextEnds, TellsText};
 
 // What the translator told: its operators, or its refusal.
 fn plan_told(translated: Translated) -> Told
@@ -45,7 +45,7 @@ fn evaluation_told(evaluated: Evaluated) -> Told
     ensures { λ r. ⌜ r ≡ toldBy 0 (Evaluator.answered evaluated) ⌝ }
 {
     match evaluated {
-        Evaluated::Items { number, .. } => Told::Gave(number),
+        Evaluated::Items { items, .. } => Told::Gave(items),
         Evaluated::Unsound(place) => Told::Refused(1, place),
         Evaluated::Excess(place) => Told::Refused(2, place),
         Evaluated::Unbound(place) => Told::Refused(3, place),
@@ -66,7 +66,7 @@ fn keep_items(ran: Ran, work: &[i64], kept: &mut [i64])
     let Ran::Tables { start, rows, .. } = ran else {
         return;
     };
-    lines::keep(work, start, rows, kept);
+    lines::copy_items(work, start, rows, kept);
 }
 
 // What the evaluator told, in the same cells. Where the runner had no room the text is decided, and the evaluator is
@@ -97,7 +97,7 @@ fn both(
 ) -> usize
     requires { ⌜ length (now work) ≡ 8192 ⌝ }
     requires { ⌜ (2730 ≤ length (now kept)) × (87488 ≤ length (now text)) ⌝ }
-    ensures { λ r. ⌜ Ends translated (now (query .entry)) (now (plan .entry)) (now (doc .entry)) (now (kept .entry))
+    ensures { λ r. ⌜ TextEnds translated (now (query .entry)) (now (plan .entry)) (now (doc .entry)) (now (kept .entry))
         (now (kept .exit)) (now (work .exit)) (now (text .entry)) (now (text .exit)) r ⌝ }
 {
     let ran = runner::run(plan, doc, work);
@@ -118,7 +118,7 @@ pub fn tell(
 ) -> usize
     requires { ⌜ (length (now plan) ≡ 6144) × (length (now work) ≡ 8192) ⌝ }
     requires { ⌜ (2730 ≤ length (now kept)) × (87488 ≤ length (now text)) ⌝ }
-    ensures { λ r. ⌜ Tells (now (query .entry)) (now (doc .entry)) (now (plan .exit)) (now (work .entry))
+    ensures { λ r. ⌜ TellsText (now (query .entry)) (now (doc .entry)) (now (plan .exit)) (now (work .entry))
         (now (work .exit))
         (now (kept .entry)) (now (kept .exit)) (now (text .entry)) (now (text .exit)) r ⌝ }
 {

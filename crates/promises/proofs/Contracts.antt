@@ -11,7 +11,7 @@ use lib.IntN.{ℤ}
 use lib.ListN.{length, take}
 use Rattle.laws.specs.Rows.{laid}
 use Rattle.meaning.specs.Calls.{Answer, gives, translateCall}
-use Rattle.agreement.specs.Passing.{Held}
+use Rattle.agreement.specs.Passing.{HeldOutcome}
 use Rattle.agreement.proofs.EnginesAgree.{agree-in-hand}
 use Rattle.catalogue.specs.Answers as Catalogue
 use Rattle.catalogue.proofs.Decided as CatalogueDecided

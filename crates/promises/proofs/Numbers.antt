@@ -98,30 +98,30 @@ plan-five bytes = from-five 512 bytes [] 0 .only
 
 -- A query
 
-abbrev Three : ℕ → Type 0
-Three n = (1 ≤ n) × (n ≤ 3)
+abbrev ThreeNumbers : ℕ → Type 0
+ThreeNumbers n = (1 ≤ n) × (n ≤ 3)
 
-leaf-three : (q : Query) (next n : ℕ) → Only Three (leaf q next n)
+leaf-three : (q : Query) (next n : ℕ) → Only ThreeNumbers (leaf q next n)
 unfolding leaf
 leaf-three q next n = only-reads
 
-one-three : (f : Query → Query) (a : Reading Read) → Only Three a → Only Three (one f a)
+one-three : (f : Query → Query) (a : Reading Read) → Only ThreeNumbers a → Only ThreeNumbers (one f a)
 unfolding one
 one-three f a h = only-reading a h (λ x. leaf-three _ _ _)
 
 two-three : (f : Query → Query → Query) (a : Reading Read) (b : ℕ → ℕ → Reading Read)
-    → Only Three a → ((n at : ℕ) → Only Three (b n at)) → Only Three (two f a b)
+    → Only ThreeNumbers a → ((n at : ℕ) → Only ThreeNumbers (b n at)) → Only ThreeNumbers (two f a b)
 unfolding two
 two-three f a b h k = only-reading a h (λ x. one-three _ _ (k (x .records) (x .next)))
 
 three-three : (f : Query → Query → Query → Query) (c : Reading Read) (a b : ℕ → ℕ → Reading Read)
-    → Only Three c → ((n at : ℕ) → Only Three (a n at)) → ((n at : ℕ) → Only Three (b n at))
-    → Only Three (three f c a b)
+    → Only ThreeNumbers c → ((n at : ℕ) → Only ThreeNumbers (a n at)) → ((n at : ℕ) → Only ThreeNumbers (b n at))
+    → Only ThreeNumbers (three f c a b)
 unfolding three
 three-three f c a b h k l = only-reading c h (λ x. two-three _ _ b (k (x .records) (x .next)) l)
 
-module _ (rd : Operand) (h : (vs : List ℕ) (n at : ℕ) → Only Three (rd vs n at)) where
-  operands-three : (vs : List ℕ) (at n next : ℕ) (r : Record) → Only Three (operands rd vs at n next r)
+module _ (rd : Operand) (h : (vs : List ℕ) (n at : ℕ) → Only ThreeNumbers (rd vs n at)) where
+  operands-three : (vs : List ℕ) (at n next : ℕ) (r : Record) → Only ThreeNumbers (operands rd vs at n next r)
   unfolding operands
   operands-three vs at n next (Q.literal z) = leaf-three _ next n
   operands-three vs at n next Q.empty = leaf-three _ next n
@@ -137,11 +137,11 @@ module _ (rd : Operand) (h : (vs : List ℕ) (n at : ℕ) → Only Three (rd vs 
   operands-three vs at n next Q.values = one-three _ _ (h vs n next)
   operands-three vs at n next (Q.step x t) = one-three _ _ (h vs n next)
 
-record-three : (bs : List ℕ) (at : ℕ) → Only Three (recordAt bs at)
+record-three : (bs : List ℕ) (at : ℕ) → Only ThreeNumbers (recordAt bs at)
 unfolding recordAt
 record-three bs at = only-refusing (recordOf bs at (word bs at 2)) 1 at (omega arith, omega arith)
 
-read-three : (d : ℕ) (bs vs : List ℕ) (n at : ℕ) → Only Three (read d bs vs n at)
+read-three : (d : ℕ) (bs vs : List ℕ) (n at : ℕ) → Only ThreeNumbers (read d bs vs n at)
 unfolding read
 read-three zero bs vs n at =
     only-reading (recordAt bs at) (record-three bs at) (λ r. only-refuses (omega arith, omega arith))

@@ -61,7 +61,7 @@ use Rattle.promises.specs.Contracts.{TellAllows}
 use Rattle.agreement.specs.Passing.{Passed, means, stands, evaluation, PlanPassed, makes, fills, theRun, Refused}
 use Rattle.order.specs.Shuffled.{Shuffles}
 use Rattle.order.specs.Order.{Unmoved}
-use Rattle.agreement.specs.Passing.{Cleared, Stood, Alike, Held, SixBelow}
+use Rattle.agreement.specs.Passing.{Cleared, StoodTables, Alike, HeldOutcome, SixBelow}
 
 -- DEMAND 1. Whatever the bytes and whatever is lent: which refusals there are and where each comes from. A refusal
 -- zeroes what was lent for writing; a slice keeps its length
@@ -126,7 +126,7 @@ pub record Demand2 : Type 0 where
   pub run-gave : (bytes doc : List ℕ) (i : PlanPassed bytes doc) (lent start rows filled : ℕ)
       → runCall bytes doc lent .answer ≡ gives (start ∷ rows ∷ filled ∷ [])
       → (ts : List Table) × (makes i ≡ Attempt.gives ts)
-      × Stood ts lent (runCall bytes doc lent .left) start rows filled
+      × StoodTables ts lent (runCall bytes doc lent .left) start rows filled
   pub run-fails : (bytes doc : List ℕ) (i : PlanPassed bytes doc) (lent : ℕ) → fills i ≤ room lent
       → makes i ≡ fails → Refused 7 (runCall bytes doc lent .answer)
   pub run-failed : (bytes doc : List ℕ) (i : PlanPassed bytes doc) (lent : ℕ)
@@ -187,12 +187,12 @@ pub record Contracts : Type 0 where
   pub catalogue : (doc : List ℕ) (a : Catalogued) → CatalogueAllows doc a → Catalogue.answered a ≡ catalogueCall doc
   pub query : (query : List ℕ) (a : Checked) → QueryAllows query a → Queries.answered a ≡ queryCall query
   pub translate : (query bytes : List ℕ) (a : Translated) (bytes′ : List ℕ) → TranslateAllows query bytes a bytes′
-      → Held (translateCall query (length bytes)) (Translator.answered a) bytes′
+      → HeldOutcome (translateCall query (length bytes)) (Translator.answered a) bytes′
   pub run : (plan doc : List ℕ) (work : List ℤ) (a : Ran) (work′ : List ℤ) → RunAllows plan doc work a work′
-      → Held (runCall plan doc (length work)) (Runner.answered a) work′
+      → HeldOutcome (runCall plan doc (length work)) (Runner.answered a) work′
   pub evaluate : (query doc : List ℕ) (work : List ℤ) (a : Evaluated) (work′ : List ℤ)
       → EvaluateAllows query doc work a work′
-      → Held (evaluateCall query doc (length work)) (Evaluator.answered a) work′
+      → HeldOutcome (evaluateCall query doc (length work)) (Evaluator.answered a) work′
 
 -- DECIDED. They leave no choice: neither in the answer nor in any byte or cell that was lent
 
@@ -247,7 +247,7 @@ Engine = List ℕ → List ℕ → List ℤ → Outcome ℤ
 abbrev pub Keeps : (List ℕ → List ℕ → ℕ → Outcome ℤ) → Engine → Type 0
 Keeps call f =
     (bytes doc : List ℕ) (cells : List ℤ) → Bytes bytes → Bytes doc → Cells cells
-    → Held (call bytes doc (length cells)) (f bytes doc cells .answer) (f bytes doc cells .left)
+    → HeldOutcome (call bytes doc (length cells)) (f bytes doc cells .answer) (f bytes doc cells .left)
 
 -- what every evaluation, or every run, answers and leaves
 abbrev pub Evaluations : Engine → (List ℤ → Outcome ℤ → Type 0) → Type 0

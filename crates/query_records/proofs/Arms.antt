@@ -193,8 +193,8 @@ module _ (bs : List ℕ) (at : ℕ) where
   unfolding readingOf
   means-none a e = record { means = sym e; small = tt }
 
-  abbrev Fails : Attempt (Query.Record × ℕ) → Type 0
-  Fails a = a ≡ fails
+  abbrev ReadFails : Attempt (Query.Record × ℕ) → Type 0
+  ReadFails a = a ≡ fails
 
   shorter : (n : ℕ) (a : Attempt Query.Record) → 2 ≤ n → fits bs at 2 ≡ false → sized bs at n a ≡ fails
   unfolding fits
@@ -202,8 +202,8 @@ module _ (bs : List ℕ) (at : ℕ) where
       let l : length bs < at + 2 = leb-false (at + 2) (length bs) e in
       sized-cut bs at n a (lt-leb (at + n) (length bs) (omega arith))
 
-  either : (t : Bool) (a b : Attempt (Query.Record × ℕ)) → Fails a → Fails b → Fails (cond t a b)
-  either t a b = cond-all Fails t a b
+  either : (t : Bool) (a b : Attempt (Query.Record × ℕ)) → ReadFails a → ReadFails b → ReadFails (cond t a b)
+  either t a b = cond-all ReadFails t a b
 
   pub record-cut : (mark : ℕ) → fits bs at 2 ≡ false → Query.recordOf bs at mark ≡ fails
   unfolding Query.recordOf

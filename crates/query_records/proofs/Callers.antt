@@ -13,7 +13,7 @@ use Rattle.query_records.specs.declared.Reading.the-variants as Found
 use Rattle.query_records.specs.declared.Decoded.{Decoded}
 use Rattle.query_records.specs.Decoded as Code
 use Rattle.query_records.specs.Decoded.{readingOf, SmallLiteral, Smalls, Means}
-use Rattle.query_records.specs.Fields.{Sound}
+use Rattle.query_records.specs.Fields.{SoundRecord}
 use Rattle.query_records.proofs.Fields.{record-sound}
 
 module _
@@ -23,7 +23,7 @@ module _
   unfolding readingOf
   found-gives = sym (m .means) ∙ ap readingOf h
 
-  pub found-sound : Sound bs at (Code.recordOf (f .kind), f .next)
+  pub found-sound : SoundRecord bs at (Code.recordOf (f .kind), f .next)
   found-sound = record-sound bs at (word bs at 2) (Code.recordOf (f .kind), f .next) found-gives
 
   pub found-small : SmallLiteral (f .kind)

@@ -16,10 +16,10 @@ use Rattle.meaning.specs.Query.{recordOf}
 use Rattle.laws.proofs.Outcomes.{given-fails, given-gives, given-cond, given-provided, given-attempt}
 use Rattle.laws.proofs.Outcomes.{given-any}
 use Rattle.theorems.proofs.Ranges.{variable-below, fragment-within}
-use Rattle.query_records.specs.Fields.{Ranged, Sound}
+use Rattle.query_records.specs.Fields.{Ranged, SoundRecord}
 
 module _ (bs : List ℕ) (at : ℕ) where
-  sized-sound : (n : ℕ) (a : Attempt Record) → 0 < n → Given Ranged a → Given (Sound bs at) (sized bs at n a)
+  sized-sound : (n : ℕ) (a : Attempt Record) → 0 < n → Given Ranged a → Given (SoundRecord bs at) (sized bs at n a)
   unfolding sized fits
   sized-sound n a h g =
       given-provided _
@@ -32,14 +32,14 @@ module _ (bs : List ℕ) (at : ℕ) where
   -- a record of one byte in its range
   field :
       (a : Attempt ℕ) (f : ℕ → Record) (P : ℕ → Type 0) → Given P a → ((v : ℕ) → P v → Ranged (f v)) →
-      Given (Sound bs at) (sized bs at 3 (attempt a (λ v. gives (f v))))
+      Given (SoundRecord bs at) (sized bs at 3 (attempt a (λ v. gives (f v))))
   field a f P g h = sized-sound 3 _ (omega arith) (given-attempt g (λ v k. given-gives (h v k)))
 
   -- a record whose fields have no range to keep
-  plain : (n : ℕ) (r : Record) → 0 < n → Ranged r → Given (Sound bs at) (sized bs at n (gives r))
+  plain : (n : ℕ) (r : Record) → 0 < n → Ranged r → Given (SoundRecord bs at) (sized bs at n (gives r))
   plain n r h k = sized-sound n (gives r) h (given-gives k)
 
-  pub record-given : (mark : ℕ) → Given (Sound bs at) (recordOf bs at mark)
+  pub record-given : (mark : ℕ) → Given (SoundRecord bs at) (recordOf bs at mark)
   unfolding recordOf Ranged
   record-given mark =
       let b = byteAt bs (at + 2) in
@@ -58,5 +58,5 @@ module _ (bs : List ℕ) (at : ℕ) where
       (given-cond (eqb mark markQX)
       (sized-sound 6 _ (omega arith) (given-any _ (λ x. given-any _ (λ t. given-gives tt)))) given-fails))))))))))))
 
-  pub record-sound : (mark : ℕ) (x : Record × ℕ) → recordOf bs at mark ≡ gives x → Sound bs at x
+  pub record-sound : (mark : ℕ) (x : Record × ℕ) → recordOf bs at mark ≡ gives x → SoundRecord bs at x
   record-sound mark x e = record-given mark .given x e

@@ -1,6 +1,6 @@
 -- The fields of a record in their ranges (document 01, 'Query records').
 --     Ranged r            QR's k is 1 to 255; a variable is 0 to 7
---     Sound bs at x       the record x .0 stands from at to x .1, within the bytes
+--     SoundRecord bs at x   the record x .0 stands from at to x .1, within the bytes
 use Prim.Native.Nat.{ℕ, _≤_, _<_}
 use mathlib.Core.List.{List}
 use lib.ListN.{length}
@@ -21,7 +21,7 @@ Ranged counting = Unit {0}
 Ranged values = Unit {0}
 Ranged (step x t) = Unit {0}
 
-pub record Sound (bs : List ℕ) (at : ℕ) (x : Record × ℕ) : Type 0 where
+pub record SoundRecord (bs : List ℕ) (at : ℕ) (x : Record × ℕ) : Type 0 where
   pub after : at < x .1
   pub within : x .1 ≤ length bs
   pub ranged : Ranged (x .0)

@@ -16,7 +16,7 @@ use Rattle.laws.proofs.Outcomes.{found-refuses, found-reads, found-unless, foun
 use Rattle.laws.proofs.Outcomes.{found-reading}
 use Rattle.theorems.proofs.Closed.{accepted}
 use Rattle.query_walks.specs.Parse.{Parsed, lone, pair, triple, trees, parse}
-use Rattle.query_walks.specs.Statements.{Parses, Accepted}
+use Rattle.query_walks.specs.Statements.{Parses, AcceptedBytes}
 
 -- One, two and three operands
 
@@ -90,7 +90,7 @@ query-found bs =
     found-unless (eqb (x .next) (length bs)) 1 (x .next)
     (λ t. found-reads (subst (λ (l : ℕ). parse 32 bs 0 ≡ gives (x .tree, l)) (eqb-true (x .next) (length bs) t) e)))
 
-pub query-accepted : (bs : List ℕ) (r : Read) → queryRead bs ≡ reads r → Accepted bs r
+pub query-accepted : (bs : List ℕ) (r : Read) → queryRead bs ≡ reads r → AcceptedBytes bs r
 query-accepted bs r e =
     let a = accepted bs r e in
     record { parses = query-found bs .found r e; closed = a .closed; counted = a .counted; few = a .few }

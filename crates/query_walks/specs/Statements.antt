@@ -1,6 +1,6 @@
 -- What the laws of this crate say.
 --     Parses p r          p gives the tree and the offset of what was read
---     Accepted bs r       the bytes parse to r's tree, which is closed and has r's records, at most 128
+--     AcceptedBytes bs r   the bytes parse to r's tree, which is closed and has r's records, at most 128
 --     More a b            what a gives, b gives
 --     Spans rd next o q e     the operands o of a tree q, read by rd from next on, end at e; q's free variables
 use Prim.Native.Nat.{ℕ, _≤_}
@@ -19,7 +19,7 @@ use Rattle.query_walks.specs.Parse.{Parsed, parse}
 abbrev pub Parses : Parsed → Read → Type 0
 Parses p r = p ≡ gives (r .tree, r .next)
 
-pub record Accepted (bs : List ℕ) (r : Read) : Type 0 where
+pub record AcceptedBytes (bs : List ℕ) (r : Read) : Type 0 where
   pub parses : parse 32 bs 0 ≡ gives (r .tree, length bs)
   pub closed : Closed (r .tree) []
   pub counted : r .records ≡ records (r .tree)

@@ -17,7 +17,7 @@ use tables::Laid;
 use tables::copy;
 
 // The row of width w at cell a, once more.
-pub fn keep(work: &mut [i64], a: usize, w: usize, at: usize, room: usize) -> Laid
+pub fn repeat(work: &mut [i64], a: usize, w: usize, at: usize, room: usize) -> Laid
     requires { ⌜ (a + w ≤ at) × (at ≤ room) × (room ≤ length (now work)) ⌝ }
     ensures { λ r. ⌜ Owes room at w (gives (row (now (work .entry)) a w ∷ [])) (now (work .entry)) (now (work .exit))
         r ⌝ }
@@ -86,7 +86,7 @@ pub fn select(work: &mut [i64], a: usize, w: usize, c: usize, at: usize, room: u
         (now (work .entry)) (now (work .exit)) r ⌝ }
 {
     if cells::same(work[a + c], 0x1_0000_0001) {
-        keep(work, a, w, at, room)
+        repeat(work, a, w, at, room)
     } else {
         Laid::Rows(0)
     }

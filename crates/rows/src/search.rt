@@ -48,6 +48,6 @@ pub fn minus(work: &mut [i64], a: usize, w: usize, s: Stand, at: usize, room: us
     if has_equal(work, a, w, s) {
         Laid::Rows(0)
     } else {
-        crate::keep(work, a, w, at, room)
+        crate::repeat(work, a, w, at, room)
     }
 }

@@ -14,11 +14,11 @@ ghost use Prim.Native.Nat.{_+_, _<_};
 ghost use lib.IntN.{pos};
 ghost use Rattle.meaning.specs.Translation.{Made, ruleL, ruleR, ruleE, tailS, tailO, tailC, tailD};
 ghost use Rattle.meaning.specs.Translation.{tailX, tailLast};
-ghost use Rattle.adding.specs.Ruled.{Room, Wrote, Ruled};
+ghost use Rattle.adding.specs.Ruled.{PenRoom, Wrote, Ruled};
 
 // QL, QB: attach 1 to the loop's table l, attach the cell.
 pub fn literal(plan: &mut [u8], pen: Pen, l: usize, cell: i64, next: usize) -> Output
-    requires { ⌜ Room pen 2 ⌝ }
+    requires { ⌜ PenRoom pen 2 ⌝ }
     ensures { λ r. ⌜ Ruled (ruleL (pen .operators) l cell) next (now (plan .entry)) pen (now (plan .exit)) r ⌝ }
 {
     let n = pen.operators;
@@ -33,7 +33,7 @@ pub fn literal(plan: &mut [u8], pen: Pen, l: usize, cell: i64, next: usize) -> O
 
 // QR: attach 1, the root of fragment k.
 pub fn root(plan: &mut [u8], pen: Pen, l: usize, k: u8, next: usize) -> Output
-    requires { ⌜ Room pen 2 ⌝ }
+    requires { ⌜ PenRoom pen 2 ⌝ }
     ensures { λ r. ⌜ Ruled (ruleR (pen .operators) l k) next (now (plan .entry)) pen (now (plan .exit)) r ⌝ }
 {
     let n = pen.operators;
@@ -48,7 +48,7 @@ pub fn root(plan: &mut [u8], pen: Pen, l: usize, k: u8, next: usize) -> Output
 
 // QE: attach 1, attach 0, that minus itself.
 pub fn empty(plan: &mut [u8], pen: Pen, l: usize, next: usize) -> Output
-    requires { ⌜ Room pen 3 ⌝ }
+    requires { ⌜ PenRoom pen 3 ⌝ }
     ensures { λ r. ⌜ Ruled (ruleE (pen .operators) l) next (now (plan .entry)) pen (now (plan .exit)) r ⌝ }
 {
     let n = pen.operators;
@@ -64,7 +64,7 @@ pub fn empty(plan: &mut [u8], pen: Pen, l: usize, next: usize) -> Output
 
 // QS, after its operands: attach 1 to a, 2 to b; union; number by p 0, keys 3, 1; project 0 4 2.
 pub fn sequence_tail(plan: &mut [u8], pen: Pen, a: usize, b: usize, next: usize) -> Output
-    requires { ⌜ Room pen 5 ⌝ }
+    requires { ⌜ PenRoom pen 5 ⌝ }
     ensures { λ r. ⌜ Ruled (tailS (pen .operators) a b) next (now (plan .entry)) pen (now (plan .exit)) r ⌝ }
 {
     let n = pen.operators;
@@ -90,7 +90,7 @@ pub fn function_tail(
     b: usize,
     next: usize,
 ) -> Output
-    requires { ⌜ Room pen 6 ⌝ }
+    requires { ⌜ PenRoom pen 6 ⌝ }
     ensures { λ r. ⌜ Ruled (tailO (pen .operators) f a b) next (now (plan .entry)) pen (now (plan .exit)) r ⌝ }
 {
     let n = pen.operators;
@@ -109,7 +109,7 @@ pub fn function_tail(
 
 // QC, after its operand: count by 0; project 0; l minus it; attach 0; union, counts first; attach 1; project 0 2 1.
 pub fn count_tail(plan: &mut [u8], pen: Pen, l: usize, a: usize, next: usize) -> Output
-    requires { ⌜ Room pen 7 ⌝ }
+    requires { ⌜ PenRoom pen 7 ⌝ }
     ensures { λ r. ⌜ Ruled (tailC (pen .operators) l a) next (now (plan .entry)) pen (now (plan .exit)) r ⌝ }
 {
     let n = pen.operators;
@@ -129,7 +129,7 @@ pub fn count_tail(plan: &mut [u8], pen: Pen, l: usize, a: usize, next: usize) ->
 
 // QD, after its operand: the value of 2; project 0 1 3.
 pub fn data_tail(plan: &mut [u8], pen: Pen, a: usize, next: usize) -> Output
-    requires { ⌜ Room pen 2 ⌝ }
+    requires { ⌜ PenRoom pen 2 ⌝ }
     ensures { λ r. ⌜ Ruled (tailD (pen .operators) a) next (now (plan .entry)) pen (now (plan .exit)) r ⌝ }
 {
     let n = pen.operators;
@@ -144,7 +144,7 @@ pub fn data_tail(plan: &mut [u8], pen: Pen, a: usize, next: usize) -> Output
 
 // QX, after its operand: project 0 2; the step; number p 0, key 1; project 0 2 1.
 pub fn step_tail(plan: &mut [u8], pen: Pen, axis: Axis, test: Test, a: usize, next: usize) -> Output
-    requires { ⌜ Room pen 4 ⌝ }
+    requires { ⌜ PenRoom pen 4 ⌝ }
     ensures { λ r. ⌜ Ruled (tailX (pen .operators) axis test a) next (now (plan .entry)) pen (now (plan .exit)) r ⌝ }
 {
     let n = pen.operators;
@@ -161,7 +161,7 @@ pub fn step_tail(plan: &mut [u8], pen: Pen, axis: Axis, test: Test, a: usize, ne
 
 // Last: number p 0, key 1; project 0 3 2.
 pub fn last(plan: &mut [u8], pen: Pen, a: usize) -> Pen
-    requires { ⌜ Room pen 2 ⌝ }
+    requires { ⌜ PenRoom pen 2 ⌝ }
     ensures { λ r. ⌜ Wrote (tailLast (pen .operators) a) (now (plan .entry)) pen (now (plan .exit)) r ⌝ }
 {
     let n = pen.operators;

@@ -34,17 +34,17 @@ use Rattle.plans.specs.declared.Checked.the-variants as Planned
 use Rattle.plans.specs.Walk.{checked, planCount}
 use Rattle.running.specs.declared.Walked.{Walked}
 use Rattle.running.specs.declared.Walked.the-variants as Walked
-use Rattle.running.specs.Leaving.{Walks, operatorsIn, operatorsOf, Accepted, carriedOut}
+use Rattle.running.specs.Leaving.{Walks, operatorsIn, operatorsOf, AcceptedPlan, carriedOut}
 use Rattle.runner.specs.declared.Ran.{Ran}
 use Rattle.runner.specs.declared.Ran.the-variants as Ran
 use Rattle.runner.specs.Answers.{answered, filledBy, badPlan, badCatalogue, concluding}
-use Rattle.runner.specs.Calling.{Leaves}
+use Rattle.runner.specs.Calling.{LeavesRan}
 use Rattle.runner.proofs.Ran.{the-type}
 
 -- a refusal leaves zeros
 refusal-leaves :
     (n p lent : ℕ) (cells : List ℤ) (r : Ran) → length cells ≡ lent → answered r ≡ Calls.refused n p → filledBy r ≡ 0 →
-    Leaves (refusal (pos 0) lent n p) cells r
+    LeavesRan (refusal (pos 0) lent n p) cells r
 unfolding refusal padded
 refusal-leaves n p lent cells r l a f =
     let none : lent - 0 ≡ lent = omega arith in
@@ -53,10 +53,10 @@ refusal-leaves n p lent cells r l a f =
 -- the tables stand, or the operators refuse
 walked-leaves :
     (o : Work Filled) (cells : List ℤ) (w : Walked) → Walks o cells w →
-    Leaves (runOutcome (length cells) (reads o)) cells (concluding w)
+    LeavesRan (runOutcome (length cells) (reads o)) cells (concluding w)
 unfolding Walks runOutcome concluding answered filledBy
 walked-leaves o cells (Walked.Tables start rows filled) (f, e, t) =
-    subst (λ (x : Work Filled). Leaves (runOutcome (length cells) (reads x)) cells
+    subst (λ (x : Work Filled). LeavesRan (runOutcome (length cells) (reads x)) cells
     (concluding (Walked.Tables start rows filled)))
     (sym e)
     (record {
@@ -73,10 +73,11 @@ walked-leaves o cells (Walked.Tables start rows filled) (f, e, t) =
         ap (λ (s : ℕ). Calls.gives (s ∷ rows ∷ filled ∷ [])) (t .from)
         ∙ ap₂ (λ (n r : ℕ). Calls.gives ((n - r * 3) ∷ r ∷ n ∷ [])) (t .count) (t .last)
 walked-leaves o cells (Walked.Full p) e =
-    subst (λ (x : Work Filled). Leaves (runOutcome (length cells) (reads x)) cells (concluding (Walked.Full p))) (sym e)
+    subst (λ (x : Work Filled). LeavesRan (runOutcome (length cells) (reads x)) cells (concluding (Walked.Full p)))
+    (sym e)
     (refusal-leaves 6 p (length cells) cells (concluding (Walked.Full p)) refl refl refl)
 walked-leaves o cells (Walked.Fails p) e =
-    subst (λ (x : Work Filled). Leaves (runOutcome (length cells) (reads x)) cells (concluding (Walked.Fails p)))
+    subst (λ (x : Work Filled). LeavesRan (runOutcome (length cells) (reads x)) cells (concluding (Walked.Fails p)))
     (sym e)
     (refusal-leaves 7 p (length cells) cells (concluding (Walked.Fails p)) refl refl refl)
 
@@ -94,7 +95,7 @@ module _ (plan : List ℕ) where
   unaccepted-of (reads ps) p e = absurd (refuses-reads 5 p (length ps) e)
 
   module _ (k : Planned) (e : checked k ≡ planCount plan) where
-    pub accepted : (n : ℕ) → k ≡ Planned.Operators n → Accepted plan
+    pub accepted : (n : ℕ) → k ≡ Planned.Operators n → AcceptedPlan plan
     unfolding checked planCount
     accepted n h = accepted-of (planRead plan) n (sym (ap checked h) ∙ e)
 
@@ -105,7 +106,7 @@ module _ (plan : List ℕ) where
     pub bad-plan-leaves :
         (doc : List ℕ) (lent p : ℕ) (cells : List ℤ) (r : Ran) → length cells ≡ lent → k ≡ Planned.Unsound p →
         r ≡ badPlan k →
-        Leaves (runCall plan doc lent) cells r
+        LeavesRan (runCall plan doc lent) cells r
     unfolding runCall runOutcome reading answered filledBy
     bad-plan-leaves doc lent p cells r l h i =
         let q : r ≡ Ran.BadPlan p = i ∙ ap badPlan h in
@@ -123,13 +124,13 @@ module _ (doc : List ℕ) (k : Catalogued) (e : Answers.answered k ≡ Calls.cat
         record { few = s .few; there = omega (arith, s .whole); nested = s .nested }
 
     pub run-leaves :
-        (plan : List ℕ) (lent : ℕ) (cells : List ℤ) (w : Walked) (r : Ran) → Accepted plan → length cells ≡ lent →
-        Walks (carriedOut plan doc n (room lent)) cells w → r ≡ concluding w → Leaves (runCall plan doc lent) cells r
+        (plan : List ℕ) (lent : ℕ) (cells : List ℤ) (w : Walked) (r : Ran) → AcceptedPlan plan → length cells ≡ lent →
+        Walks (carriedOut plan doc n (room lent)) cells w → r ≡ concluding w → LeavesRan (runCall plan doc lent) cells r
     unfolding runCall reading
     run-leaves plan lent cells w r a l h i =
-        subst (λ (q : Ran). Leaves (runCall plan doc lent) cells q) (sym i)
-        (subst (λ (o : Outcome ℤ). Leaves o cells (concluding w)) (sym same)
-        (subst (λ (k : ℕ). Leaves (runOutcome k (reads (carriedOut plan doc n (room lent)))) cells (concluding w)) l
+        subst (λ (q : Ran). LeavesRan (runCall plan doc lent) cells q) (sym i)
+        (subst (λ (o : Outcome ℤ). LeavesRan o cells (concluding w)) (sym same)
+        (subst (λ (k : ℕ). LeavesRan (runOutcome k (reads (carriedOut plan doc n (room lent)))) cells (concluding w)) l
         (walked-leaves (carriedOut plan doc n (room lent)) cells w h)))
       where
         go : Catalogue → List Placed → Outcome ℤ
@@ -147,9 +148,9 @@ module _ (doc : List ℕ) (k : Catalogued) (e : Answers.answered k ≡ Calls.cat
             (Catalogues.accepted doc n told)
 
   pub bad-catalogue-leaves :
-      (plan : List ℕ) (lent p : ℕ) (cells : List ℤ) (r : Ran) → Accepted plan → length cells ≡ lent →
+      (plan : List ℕ) (lent p : ℕ) (cells : List ℤ) (r : Ran) → AcceptedPlan plan → length cells ≡ lent →
       k ≡ Catalogued.Unsound p →
-      r ≡ badCatalogue k → Leaves (runCall plan doc lent) cells r
+      r ≡ badCatalogue k → LeavesRan (runCall plan doc lent) cells r
   unfolding runCall runOutcome reading answered filledBy
   bad-catalogue-leaves plan lent p cells r a l h i =
       let q : r ≡ Ran.BadCatalogue p = i ∙ ap badCatalogue h in
@@ -162,12 +163,12 @@ module _ (doc : List ℕ) (k : Catalogued) (e : Answers.answered k ≡ Calls.cat
       ∙ ap
       (λ (m : Reading Catalogue). runOutcome lent (reading m (λ c. reads
       (running (worldOf c) (room lent) (operatorsOf plan) [] 0)))) bad in
-      subst (λ (o : Outcome ℤ). Leaves o cells r) (sym same) (refusal-leaves 4 p lent cells r l (ap answered q)
+      subst (λ (o : Outcome ℤ). LeavesRan o cells r) (sym same) (refusal-leaves 4 p lent cells r l (ap answered q)
       (ap filledBy q))
 
 -- the cells past the filled are zero
 pub cleared :
-    (o : Outcome ℤ) (cells after : List ℤ) (r : Ran) (n : ℕ) → Leaves o cells r → n ≡ filledBy r →
+    (o : Outcome ℤ) (cells after : List ℤ) (r : Ran) (n : ℕ) → LeavesRan o cells r → n ≡ filledBy r →
     after ≡ padded (pos 0) (length cells) (take n cells) → after ≡ o .left
 cleared o cells after r n h i e = e ∙ ap (λ (k : ℕ). padded (pos 0) (length cells) (take k cells)) i ∙ h .left
 

@@ -1,5 +1,5 @@
 -- What the call answers and leaves, before the cells past the filled are cleared (document 01, 'Room').
---     Leaves o cells r       the answer r is that of the outcome o, and so are the cells once all past the filled are
+--     LeavesRan o cells r    the answer r is that of the outcome o, and so are the cells once all past the filled are
 --                            zero
 use Prim.Native.Nat.{_≤_}
 use mathlib.Core.Path.{_≡_}
@@ -11,7 +11,7 @@ use Rattle.meaning.specs.Calls.{Outcome}
 use Rattle.runner.specs.declared.Ran.{Ran}
 use Rattle.runner.specs.Answers.{answered, filledBy}
 
-pub record Leaves (o : Outcome ℤ) (cells : List ℤ) (r : Ran) : Type 0 where
+pub record LeavesRan (o : Outcome ℤ) (cells : List ℤ) (r : Ran) : Type 0 where
   pub answer : answered r ≡ o .answer
   pub left : padded (pos 0) (length cells) (take (filledBy r) cells) ≡ o .left
   pub within : filledBy r ≤ length cells

@@ -4,7 +4,7 @@ ghost use mathlib.Core.Path.{_≡_};
 ghost use lib.ListN.{length};
 ghost use Rattle.meaning.specs.Calls.{runCall};
 ghost use Rattle.runner.specs.Answers.{answered, filledBy, badPlan, badCatalogue, concluding};
-ghost use Rattle.runner.specs.Calling.{Leaves};
+ghost use Rattle.runner.specs.Calling.{LeavesRan};
 
 // What a run answers: the start and the rows of the last table and the cells filled; or the place of refusal 5, 4, 6 or
 // 7.
@@ -63,7 +63,7 @@ fn concluded(walked: Walked) -> Ran
 
 // Plan, then catalogue, then work. What stands past the tables, or after a refusal, does not matter yet.
 fn attempt(plan: &[u8], doc: &[u8], work: &mut [i64]) -> Ran
-    ensures { λ r. ⌜ Leaves (runCall (now (plan .entry)) (now (doc .entry)) (length (now (work .entry))))
+    ensures { λ r. ⌜ LeavesRan (runCall (now (plan .entry)) (now (doc .entry)) (length (now (work .entry))))
         (now (work .exit)) r ⌝ }
 {
     let operators = plans::check(plan);

@@ -33,7 +33,7 @@ use Rattle.plan_records.specs.Decoded.{operatorOf}
 use Rattle.theorems.specs.PlanRead.{widthsOf}
 use Rattle.plans.proofs.Callers.{ahead-start, ahead-end, plan-last}
 use Rattle.plans.proofs.Walking.{last-width, widths-more, widths-length}
-use Rattle.directory.specs.Directory.{standAt, entered, tablesIn, widthsIn, Listed, EndToEnd, Entry}
+use Rattle.directory.specs.Directory.{standAt, entered, tablesIn, widthsIn, ListedTables, EndToEnd, Entry}
 use Rattle.directory.proofs.Entries.{length-widths, width-of}
 
 pub record Going (w : World) (room lent : ℕ) (plan : List ℕ) (all : List Placed)
@@ -43,7 +43,7 @@ pub record Going (w : World) (room lent : ℕ) (plan : List ℕ) (all : List Pla
   pub ahead : Ahead plan before left at
   pub widths : widthsIn dir n ≡ widthsOf before
   pub same : running w room all [] 0 ≡ running w room left (tablesIn work dir n) filled
-  pub listed : Listed dir n filled
+  pub listed : ListedTables dir n filled
   pub ends : EndToEnd work dir n filled
   pub last : (m : ℕ) → n ≡ m + 1 → standAt dir m .at + standAt dir m .rows * standAt dir m .width ≡ filled
   pub fits : filled ≤ room

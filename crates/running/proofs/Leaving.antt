@@ -30,7 +30,7 @@ use Rattle.plan_records.specs.Decoded.{operatorOf, Means}
 use Rattle.cells.specs.Bytes.{Bytes}
 use Rattle.plans.proofs.Callers.{ahead-unread, ahead-turn}
 use Rattle.directory.specs.Directory.{standAt, entered, tablesIn, EndToEnd}
-use Rattle.directory.specs.Sound.{madeWidth, Sound}
+use Rattle.directory.specs.Sound.{madeWidth, SoundOperator}
 use Rattle.directory.proofs.Entries.{entry}
 use Rattle.directory.proofs.Cases.{turn-sound}
 use Rattle.operators.specs.declared.Top.{Top}
@@ -63,10 +63,10 @@ module _ (w : World) (room lent : ℕ) (plan : List ℕ) (all : List Placed) (wo
     the-turn : Turn plan (g .before) (g .left) at d
     the-turn = ahead-turn (g .ahead) before m b d e
 
-    fits : Sound plan dir n (d .operator) × (madeWidth dir (d .operator) ≡ the-turn .width)
+    fits : SoundOperator plan dir n (d .operator) × (madeWidth dir (d .operator) ≡ the-turn .width)
     fits = turn-sound plan dir n (g .before) (g .left) at d the-turn (g .widths)
 
-    pub read-sound : Sound plan dir n (d .operator)
+    pub read-sound : SoundOperator plan dir n (d .operator)
     read-sound = fits .0
 
     pub under-512 : n < 512

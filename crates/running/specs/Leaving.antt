@@ -1,10 +1,11 @@
 -- What the operators of a plan come to, and what they leave in the cells (document 01, 'Room').
---     Tells f cells start rows filled     the tables f stand in the cells from 0 on and fill so many of them; the last
+--     TellsFilled f cells start rows filled   the tables f stand in the cells from 0 on and fill so many of them; the
+--                                             last
 --                            starts there and has so many rows
 --     Walks o cells r        r is the outcome o of the operators; where all are done, their tables stand in the cells
 --     operatorsIn m               the operators that a reading gives; none where it refuses
 --     operatorsOf bs         the operators of a plan that is sound
---     Accepted bs            it is
+--     AcceptedPlan bs        it is
 --     carriedOut plan doc rows room      the outcome of the operators of a plan over a catalogue of so many rows
 --     Goes ..                what one operator comes to: its table laid and entered, or that it passes the room, or
 --                            fails
@@ -32,7 +33,7 @@ use Rattle.running.specs.declared.Turned.the-variants.{On, Full, Fails}
 use Rattle.running.specs.declared.Walked.{Walked}
 use Rattle.running.specs.declared.Walked.the-variants as Walked
 
-pub record Tells (f : Filled) (cells : List ℤ) (start rows filled : ℕ) : Type 0 where
+pub record TellsFilled (f : Filled) (cells : List ℤ) (start rows filled : ℕ) : Type 0 where
   pub count : filled ≡ f .filled
   pub last : rows ≡ length (lastTable (f .tables))
   pub from : start ≡ filled - rows * 3
@@ -40,7 +41,7 @@ pub record Tells (f : Filled) (cells : List ℤ) (start rows filled : ℕ) : Typ
   pub within : filled ≤ length cells
 
 unfoldable pub Walks : Work Filled → List ℤ → Walked → Type 0
-Walks o cells (Walked.Tables start rows filled) = (f : Filled) × (o ≡ done f) × Tells f cells start rows filled
+Walks o cells (Walked.Tables start rows filled) = (f : Filled) × (o ≡ done f) × TellsFilled f cells start rows filled
 Walks o cells (Walked.Full p) = o ≡ full p
 Walks o cells (Walked.Fails p) = o ≡ failed p
 
@@ -51,8 +52,8 @@ operatorsIn (reads ps) = ps
 abbrev pub operatorsOf : List ℕ → List Placed
 operatorsOf bs = operatorsIn (planRead bs)
 
-abbrev pub Accepted : List ℕ → Type 0
-Accepted bs = planRead bs ≡ reads (operatorsOf bs)
+abbrev pub AcceptedPlan : List ℕ → Type 0
+AcceptedPlan bs = planRead bs ≡ reads (operatorsOf bs)
 
 abbrev pub carriedOut : List ℕ → List ℕ → (rows room : ℕ) → Work Filled
 carriedOut plan doc rows room = running (worldOf (catalogueOf doc rows)) room (operatorsOf plan) [] 0

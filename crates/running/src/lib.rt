@@ -9,9 +9,9 @@ ghost use Rattle.meaning.specs.Operators.{make};
 ghost use Rattle.meaning.specs.World.{worldOf};
 ghost use Rattle.axes.specs.Steps.{Known, Ready};
 ghost use Rattle.plan_records.specs.Decoded.{operatorOf};
-ghost use Rattle.directory.specs.Directory.{tablesIn, Listed};
-ghost use Rattle.directory.specs.Sound.{madeWidth, Sound};
-ghost use Rattle.running.specs.Leaving.{Walks, Accepted, carriedOut, Goes, refusedAt};
+ghost use Rattle.directory.specs.Directory.{tablesIn, ListedTables};
+ghost use Rattle.directory.specs.Sound.{madeWidth, SoundOperator};
+ghost use Rattle.running.specs.Leaving.{Walks, AcceptedPlan, carriedOut, Goes, refusedAt};
 use directory::enter;
 use directory::stand;
 use directory::width;
@@ -56,8 +56,8 @@ fn lay(
     to: &mut [bool],
     room: usize,
 ) -> Turned
-    requires { ⌜ Listed (now directory) (top .tables) (top .cells)
-        × Sound (now plan) (now directory) (top .tables) operator ⌝ }
+    requires { ⌜ ListedTables (now directory) (top .tables) (top .cells)
+        × SoundOperator (now plan) (now directory) (top .tables) operator ⌝ }
     requires { ⌜ (top .tables < 512) × (top .cells ≤ room) × (room ≤ length (now work)) × (room ≤ 65536) ⌝ }
     requires { ⌜ (32768 ≤ length (now order)) × (16384 ≤ length (now aside))
         × Ready (now doc) rows (now from) (now to) ⌝ }
@@ -124,7 +124,8 @@ fn walk(
     to: &mut [bool],
     room: usize,
 ) -> Walked
-    requires { ⌜ Accepted (now plan) × (length (now directory) ≡ 1536) × (room ≤ length (now work)) × (room ≤ 65536) ⌝ }
+    requires { ⌜ AcceptedPlan (now plan) × (length (now directory) ≡ 1536) × (room ≤ length (now work))
+        × (room ≤ 65536) ⌝ }
     requires { ⌜ (32768 ≤ length (now order)) × (16384 ≤ length (now aside))
         × Ready (now doc) rows (now from) (now to) ⌝ }
     ensures { λ r. ⌜ Walks (carriedOut (now (plan .entry)) (now (doc .entry)) rows room) (now (work .exit)) r ⌝ }
@@ -133,7 +134,7 @@ fn walk(
     let mut tables: usize = 0;
     let mut filled: usize = 0;
     while at < plan.len() {
-        let Reading::Sound(found) = plan_records::read(plan, at) else {
+        let Reading::SoundOperator(found) = plan_records::read(plan, at) else {
             // never: an accepted plan has a sound record at each offset before its end
             return Walked::Fails(at);
         };
@@ -173,7 +174,7 @@ fn walk(
 
 // Runs a sound plan over a sound catalogue. The directory and what the operators work in are made here, once a run.
 pub fn work_out(plan: &[u8], doc: &[u8], rows: usize, work: &mut [i64]) -> Walked
-    requires { ⌜ Accepted (now plan) × Known (now doc) rows ⌝ }
+    requires { ⌜ AcceptedPlan (now plan) × Known (now doc) rows ⌝ }
     ensures { λ r. ⌜ Walks (carriedOut (now (plan .entry)) (now (doc .entry)) rows (room (length (now (work .entry)))))
         (now (work .exit)) r ⌝ }
 {

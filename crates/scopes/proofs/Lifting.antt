@@ -32,8 +32,8 @@ use Rattle.meaning.specs.Translation.{Tables, hold, lifts, lifted, freeIn, othe
 use Rattle.theorems.proofs.PlanBound.{length-filter, length-lifts}
 use Rattle.adding.specs.declared.Pen.{Pen}
 use Rattle.scopes.specs.declared.Lifted.{Lifted}
-use Rattle.adding.specs.Ruled.{Room, Wrote}
-use Rattle.scopes.specs.Lifts.{tablesOf, Holds, flagged, Lifts}
+use Rattle.adding.specs.Ruled.{PenRoom, Wrote}
+use Rattle.scopes.specs.Lifts.{tablesOf, HoldsTables, flagged, Lifts}
 use Rattle.adding.proofs.Adding.{wrote-none, wrote-then, wrote-room}
 
 module _ (e f : Tables) where
@@ -110,7 +110,7 @@ set-holds ts v t u l h = go (ℕ-discrete u v)
 
 -- a row of eight with another table for a variable holds the tables that `hold` gives
 pub hold-holds :
-    (ts : List ℕ) (e : Tables) (v t : ℕ) → length ts ≡ 8 → Holds ts e → Holds (set ts v t) (hold v t e)
+    (ts : List ℕ) (e : Tables) (v t : ℕ) → length ts ≡ 8 → HoldsTables ts e → HoldsTables (set ts v t) (hold v t e)
 unfolding hold
 hold-holds ts e v t l h u k = set-holds ts v t u l k ∙ ap (cond (eqb u v) t) (h u k)
 
@@ -175,7 +175,7 @@ module _
 
 pub lifts-room :
     (ts : List ℕ) (m : ℕ) (cs : List ℕ) (fs : List Bool) (v : ℕ) (x y : List ℕ) (p : Pen) (a : Lifted) →
-    Lifts ts m cs (flagged fs v) x p y a → v < 8 → Room p 16 → Room (a .pen) 2
+    Lifts ts m cs (flagged fs v) x p y a → v < 8 → PenRoom p 16 → PenRoom (a .pen) 2
 unfolding flagged
 lifts-room ts m cs fs v x y p a g l h =
     wrote-room (g .wrote) 2 16 h
@@ -188,7 +188,7 @@ lifts-room ts m cs fs v x y p a g l h =
 
 pub lifts-all-room :
     {ts : List ℕ} {m : ℕ} {cs : List ℕ} (fs : List Bool) {x y : List ℕ} {p : Pen} {a : Lifted} →
-    Lifts ts m cs (flagged fs 8) x p y a → (j k : ℕ) → Room p k → 16 + j ≤ k → Room (a .pen) j
+    Lifts ts m cs (flagged fs 8) x p y a → (j k : ℕ) → PenRoom p k → 16 + j ≤ k → PenRoom (a .pen) j
 unfolding flagged
 lifts-all-room {ts} {m} {cs} fs {p = p} g j k h l =
     wrote-room (g .wrote) j k h
@@ -225,7 +225,8 @@ flagged-others fs u q l h =
 
 module _
     (ts : List ℕ) (m : ℕ) (cs : List ℕ) (fs : List Bool) (x y : List ℕ) (p : Pen) (r : Lifted)
-    (g : Lifts ts m cs (flagged fs 8) x p y r) (e : Tables) (h : Holds ts e) (vs : List ℕ) (s : flagged fs 8 ≡ vs) where
+    (g : Lifts ts m cs (flagged fs 8) x p y r) (e : Tables) (h : HoldsTables ts e) (vs : List ℕ) (s : flagged fs 8
+    ≡ vs) where
   pub lifts-wrote : Wrote (lifts e m cs (p .operators) vs) x p y (r .pen)
   lifts-wrote =
       subst (λ (us : List ℕ). Wrote (lifts e m cs (p .operators) us) x p y (r .pen)) s
@@ -233,7 +234,7 @@ module _
       (all-map (flagged fs 8) h (flagged-below fs 8)))
       at (g .wrote))
 
-  pub lifts-holds : Holds (r .tables) (lifted e (p .operators) vs)
+  pub lifts-holds : HoldsTables (r .tables) (lifted e (p .operators) vs)
   lifts-holds u k =
       g .holds u k
       ∙ lifted-same (tablesOf ts) e u (p .operators) (flagged fs 8) (h u k)

@@ -1,7 +1,7 @@
 -- What lifting leaves (document 01, 'Translation': variables are lifted only where free, by rising number).
 --     choice n a b           what QI adds after its operands
 --     tablesOf ts            the table of each variable, from the row of eight
---     Holds ts e             the row has the tables e of the variables 0 to 7
+--     HoldsTables ts e       the row has the tables e of the variables 0 to 7
 --     flagged fs n           the variables below n whose flag is set, by rising number
 --     Lifts ts m cs vs x p y r    the variables vs are lifted: their joins with table m and their projections on cs are
 --                            written, and r has the variables' tables after them
@@ -24,8 +24,8 @@ choice n a b = record { ops = RU a b ∷ []; result = n }
 abbrev pub tablesOf : List ℕ → Tables
 tablesOf ts v = getD ts v 0
 
-abbrev pub Holds : List ℕ → Tables → Type 0
-Holds ts e = (v : ℕ) → v < 8 → getD ts v 0 ≡ e v
+abbrev pub HoldsTables : List ℕ → Tables → Type 0
+HoldsTables ts e = (v : ℕ) → v < 8 → getD ts v 0 ≡ e v
 
 unfoldable pub flagged : List Bool → ℕ → List ℕ
 flagged fs n = filter (λ v. getD fs v false) (below n)
@@ -33,4 +33,4 @@ flagged fs n = filter (λ v. getD fs v false) (below n)
 pub record Lifts
     (ts : List ℕ) (m : ℕ) (cs vs : List ℕ) (x : List ℕ) (p : Pen) (y : List ℕ) (r : Lifted) : Type 0 where
   pub wrote : Wrote (lifts (tablesOf ts) m cs (p .operators) vs) x p y (r .pen)
-  pub holds : Holds (r .tables) (lifted (tablesOf ts) (p .operators) vs)
+  pub holds : HoldsTables (r .tables) (lifted (tablesOf ts) (p .operators) vs)

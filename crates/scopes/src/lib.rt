@@ -12,7 +12,7 @@ ghost use Prim.Native.Nat.{_+_, _<_};
 ghost use lib.ListN.{getD, set};
 ghost use Rattle.meaning.specs.Plan.{RU, RJ, RP};
 ghost use Rattle.meaning.specs.Translation.{Made, headF, tailF, headI};
-ghost use Rattle.adding.specs.Ruled.{Room, Wrote, Ruled};
+ghost use Rattle.adding.specs.Ruled.{PenRoom, Wrote, Ruled};
 ghost use Rattle.scopes.specs.Lifts.{Lifts, choice, flagged};
 
 // What lifting leaves: the variables' tables, and where writing stands.
@@ -24,7 +24,7 @@ pub struct Lifted {
 // QF, between its operands: number a, no p, keys 0, 1; attach 1; project 3 4 2, the variable; project 3, the new loop;
 // project 0 3, the map.
 pub fn for_head(plan: &mut [u8], pen: Pen, a: usize) -> Pen
-    requires { ⌜ Room pen 5 ⌝ }
+    requires { ⌜ PenRoom pen 5 ⌝ }
     ensures { λ r. ⌜ Wrote (headF (pen .operators) a) (now (plan .entry)) pen (now (plan .exit)) r ⌝ }
 {
     let n = pen.operators;
@@ -37,7 +37,7 @@ pub fn for_head(plan: &mut [u8], pen: Pen, a: usize) -> Pen
 
 // QF, after its operands: join 0 with map 1; number p 3, keys 0, 1; project 3 5 2.
 pub fn for_tail(plan: &mut [u8], pen: Pen, b: usize, map: usize, next: usize) -> Output
-    requires { ⌜ Room pen 3 ⌝ }
+    requires { ⌜ PenRoom pen 3 ⌝ }
     ensures { λ r. ⌜ Ruled (tailF (pen .operators) b map) next (now (plan .entry)) pen (now (plan .exit)) r ⌝ }
 {
     let n = pen.operators;
@@ -53,7 +53,7 @@ pub fn for_tail(plan: &mut [u8], pen: Pen, b: usize, map: usize, next: usize) ->
 
 // QI, after its condition: the truth of each group; select 1; project 0, the then-loop; l minus it, the else-loop.
 pub fn if_head(plan: &mut [u8], pen: Pen, l: usize, c: usize) -> Pen
-    requires { ⌜ Room pen 4 ⌝ }
+    requires { ⌜ PenRoom pen 4 ⌝ }
     ensures { λ r. ⌜ Wrote (headI (pen .operators) l c) (now (plan .entry)) pen (now (plan .exit)) r ⌝ }
 {
     let n = pen.operators;
@@ -65,7 +65,7 @@ pub fn if_head(plan: &mut [u8], pen: Pen, l: usize, c: usize) -> Pen
 
 // QI, after its operands: union.
 pub fn if_tail(plan: &mut [u8], pen: Pen, a: usize, b: usize, next: usize) -> Output
-    requires { ⌜ Room pen 1 ⌝ }
+    requires { ⌜ PenRoom pen 1 ⌝ }
     ensures { λ r. ⌜ Ruled (choice (pen .operators) a b) next (now (plan .entry)) pen (now (plan .exit)) r ⌝ }
 {
     let n = pen.operators;
@@ -117,7 +117,7 @@ fn lift_one(
     m: usize,
     first: u8,
 ) -> Lifted
-    requires { ⌜ Room pen 2 × (v < 8) ⌝ }
+    requires { ⌜ PenRoom pen 2 × (v < 8) ⌝ }
     ensures { λ r. ⌜ Lifts tables m (first ∷ 1 ∷ 2 ∷ []) (cond flag (v ∷ []) []) (now (plan .entry)) pen (now
         (plan .exit)) r ⌝ }
 {
@@ -143,7 +143,7 @@ pub fn lift(
     m: usize,
     first: u8,
 ) -> Lifted
-    requires { ⌜ Room pen 16 ⌝ }
+    requires { ⌜ PenRoom pen 16 ⌝ }
     ensures { λ r. ⌜ Lifts tables m (first ∷ 1 ∷ 2 ∷ []) (flagged flags 8) (now (plan .entry)) pen (now (plan .exit))
         r ⌝ }
 {

@@ -7,19 +7,19 @@ use mathlib.Core.Path.{_≡_, subst}
 use lib.IntN.{ℤ}
 use Rattle.views.specs.declared.records.Seen.{Seen}
 use Rattle.views.specs.declared.records.Seen.the-variants as Seen
-use Rattle.views.specs.declared.records.Field.{Field}
-use Rattle.views.specs.declared.records.Field.the-variants as Field
+use Rattle.views.specs.declared.records.ShownField.{ShownField}
+use Rattle.views.specs.declared.records.ShownField.the-variants as ShownField
 use Rattle.views.specs.declared.places.Place.{Place}
 use Rattle.views.specs.declared.places.Place.the-variants.{Cells}
 use Rattle.views.specs.Records.{Within, Ahead}
-use Rattle.views.specs.Places.{Standing}
+use Rattle.views.specs.Places.{PlaceStands}
 
-module _ (from end : ℕ) (f : Field) (next : ℕ) (h : Ahead from end f) where
-  pub number-ahead : (k : ℕ) → f ≡ Field.Number k next → (from < next) × (next ≤ end)
+module _ (from end : ℕ) (f : ShownField) (next : ℕ) (h : Ahead from end f) where
+  pub number-ahead : (k : ℕ) → f ≡ ShownField.Number k next → (from < next) × (next ≤ end)
   unfolding Ahead
   number-ahead k e = subst (Ahead from end) e h
 
-  pub cell-ahead : (z : ℤ) → f ≡ Field.Cell z next → (from < next) × (next ≤ end)
+  pub cell-ahead : (z : ℤ) → f ≡ ShownField.Cell z next → (from < next) × (next ≤ end)
   unfolding Ahead
   cell-ahead z e = subst (Ahead from end) e h
 
@@ -32,6 +32,6 @@ module _ (l at : ℕ) (s : Seen) (next : ℕ) (h : Within l at s) where
   unfolding Within
   unsuited-within e = subst (Within l at) e h
 
-pub cells-standing : (room : ℕ) (p : Place) (s e : ℕ) → p ≡ Cells s e → Standing room p → (s ≤ e) × (e ≤ room)
-unfolding Standing
-cells-standing room p s e q h = subst (Standing room) q h
+pub cells-standing : (room : ℕ) (p : Place) (s e : ℕ) → p ≡ Cells s e → PlaceStands room p → (s ≤ e) × (e ≤ room)
+unfolding PlaceStands
+cells-standing room p s e q h = subst (PlaceStands room) q h

@@ -9,8 +9,8 @@ use libc::STDOUT_FILENO;
 use runner::Ran;
 use translator::Translated;
 use views::places::Place;
-use views::records::Field;
 use views::records::Seen;
+use views::records::ShownField;
 
 // A cell in the heading.
 fn show_cell(cell: i64) {
@@ -27,15 +27,15 @@ fn show_field(plan: &[u8], at: usize, from: usize, end: usize) -> usize
 {
     let field = views::records::next_field(plan, at, from, end);
     match field {
-        Field::Number(number, next) => {
+        ShownField::Number(number, next) => {
             cases::say(b" ", number);
             next
         }
-        Field::Cell(cell, next) => {
+        ShownField::Cell(cell, next) => {
             show_cell(cell);
             next
         }
-        Field::Nothing => end,
+        ShownField::Nothing => end,
     }
 }
 

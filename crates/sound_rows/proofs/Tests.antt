@@ -18,8 +18,8 @@ use Rattle.meaning.specs.Catalogue.{catalogueOf, markDN, ownSound, rowSound}
 use Rattle.doc_rows.specs.Fields.{sizeAt, levelAt, kindAt, propAt}
 use Rattle.sound_rows.specs.Answers.{levelOf}
 use Rattle.sound_rows.specs.Kinds.{kindSound}
-use Rattle.sound_rows.specs.declared.Row.{Row}
-use Rattle.sound_rows.specs.declared.Row.the-variants.{Level, Unsound}
+use Rattle.sound_rows.specs.declared.ReadRow.{ReadRow}
+use Rattle.sound_rows.specs.declared.ReadRow.the-variants.{Level, Unsound}
 
 module _ (doc : List ℕ) (r most n : ℕ) where
   pub own-deep : most < levelAt doc r → false ≡ ownSound (catalogueOf doc n) r most
@@ -49,13 +49,13 @@ pub row-some : {b : Bool} {k l : ℕ} → b ≡ true → k ≡ l → gives k ≡
 unfolding provided
 row-some e d = rw (e, d)
 
-pub row-read : (b : Bool) (l : ℕ) {k : ℕ} (a : Row) → levelOf a ≡ provided b (gives l) → a ≡ Level k
+pub row-read : (b : Bool) (l : ℕ) {k : ℕ} (a : ReadRow) → levelOf a ≡ provided b (gives l) → a ≡ Level k
     → (b ≡ true) × (k ≡ l)
 unfolding provided levelOf
 row-read true l a e d = (refl, gives-same (sym (ap levelOf d) ∙ e))
 row-read false l a e d = absurd (fails-gives _ (sym e ∙ ap levelOf d))
 
-pub row-unread : (b : Bool) (l : ℕ) (a : Row) → levelOf a ≡ provided b (gives l) → a ≡ Unsound → b ≡ false
+pub row-unread : (b : Bool) (l : ℕ) (a : ReadRow) → levelOf a ≡ provided b (gives l) → a ≡ Unsound → b ≡ false
 unfolding provided levelOf
 row-unread true l a e d = absurd (fails-gives _ (sym (ap levelOf d) ∙ e))
 row-unread false l a e d = refl

@@ -14,7 +14,7 @@ ghost use Rattle.sound_rows.specs.Answers;
 const DN: u16 = 0x444E;
 
 // The level of a sound row, or that the row is unsound.
-pub enum Row {
+pub enum ReadRow {
     Level(usize),
     Unsound,
 }
@@ -46,7 +46,7 @@ fn kind_sound(size: usize, level: usize, kind: usize, prop: i32) -> bool
 
 // The row of a rank that is all there and has its mark, read: sound in its own fields, where its level may be at most
 // `most`.
-fn own_row(doc: &[u8], r: Rank, most: usize) -> Row
+fn own_row(doc: &[u8], r: Rank, most: usize) -> ReadRow
     requires { ⌜ 10 * (r .0) + 10 ≤ length (now doc) ⌝ }
     ensures { λ a. ⌜ Answers.levelOf a
         ≡ provided (Catalogue.ownSound (Catalogue.catalogueOf (now (doc .entry)) (r .0)) (r .0) most)
@@ -54,10 +54,10 @@ fn own_row(doc: &[u8], r: Rank, most: usize) -> Row
 {
     let l = doc_rows::level(doc, r);
     if most < l {
-        return Row::Unsound;
+        return ReadRow::Unsound;
     }
     if DEEPEST < l {
-        return Row::Unsound;
+        return ReadRow::Unsound;
     }
     if kind_sound(
         doc_rows::size(doc, r),
@@ -65,14 +65,14 @@ fn own_row(doc: &[u8], r: Rank, most: usize) -> Row
         doc_rows::kind(doc, r),
         doc_rows::prop(doc, r),
     ) {
-        Row::Level(l)
+        ReadRow::Level(l)
     } else {
-        Row::Unsound
+        ReadRow::Unsound
     }
 }
 
 // The row of a rank, read: it is all there, has its mark, and is sound in its own fields.
-pub fn read_row(doc: &[u8], r: Rank, most: usize) -> Row
+pub fn read_row(doc: &[u8], r: Rank, most: usize) -> ReadRow
     requires { ⌜ 10 * (r .0) ≤ length (now doc) ⌝ }
     ensures { λ a. ⌜ Answers.levelOf a
         ≡ provided (Catalogue.rowSound (now (doc .entry)) (r .0) most)
@@ -80,11 +80,11 @@ pub fn read_row(doc: &[u8], r: Rank, most: usize) -> Row
 {
     let at = 10 * r.0;
     if !cells::fits(doc, at, 10) {
-        return Row::Unsound;
+        return ReadRow::Unsound;
     }
     let mark = cells::mark(doc, at);
     match mark {
         DN => own_row(doc, r, most),
-        0..=0x444D | 0x444F..=0xFFFF => Row::Unsound,
+        0..=0x444D | 0x444F..=0xFFFF => ReadRow::Unsound,
     }
 }

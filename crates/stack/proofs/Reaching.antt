@@ -52,8 +52,8 @@ module _
     (e : a ≡ Stood.Items l k n) (g : Lent top room before) (f : Fit top room a) (ms : List Bool) (m : Marked)
     (part : Reaches doc rows axis test (take (top + l - top) (drop top before)) ms m)
   where
-    abbrev Steps : List ℤ → Stood → Type 0
-    Steps after r =
+    abbrev StepsTo : List ℤ → Stood → Type 0
+    StepsTo after r =
         Leaves top room (stepped (worldOf (catalogueOf doc rows)) (room - top) at axis test (stood before top a))
         (Ends a) before after r
 
@@ -66,7 +66,7 @@ module _
     long : length (row before top l) ≡ l
     long = length-row before top l (omega (arith, fit .0, fit .1, g .lent))
 
-    pub leaves-strange : m ≡ NotANode → Steps before (Stood.Failed at)
+    pub leaves-strange : m ≡ NotANode → StepsTo before (Stood.Failed at)
     unfolding stepped worldOf
     leaves-strange d =
         leaves-items top room before before (Stood.Failed at) _ a l k n e
@@ -83,7 +83,7 @@ module _
     reached :
         (after : List ℤ) (r : Stood) → m ≡ AllNodes →
         Leaves top room (raised k (adding (room - top) at (length (row before top l)) nodes)) (At n) before after r →
-        Steps after r
+        StepsTo after r
     unfolding stepped worldOf nodes
     reached after r d h =
         leaves-items top room before after r _ a l k n e
@@ -91,7 +91,7 @@ module _
         (subst (Reaches doc rows axis test (row before top l) ms) d s) h)
 
     pub leaves-short :
-        (c : ℕ) → m ≡ AllNodes → c ≡ length (ranks rows ms) → room - (top + l) < c → Steps before (Stood.Full at)
+        (c : ℕ) → m ≡ AllNodes → c ≡ length (ranks rows ms) → room - (top + l) < c → StepsTo before (Stood.Full at)
     unfolding raising
     leaves-short c d q h =
         reached before (Stood.Full at) d
@@ -100,7 +100,7 @@ module _
 
     pub leaves-reached :
         (after : List ℤ) (c o : ℕ) → m ≡ AllNodes → c ≡ length (ranks rows ms) → c ≤ room - (top + l) →
-        after ≡ laid before top (map nodeCell (ranks rows ms)) → o ≡ max k (l + c) → Steps after (Stood.Items c o n)
+        after ≡ laid before top (map nodeCell (ranks rows ms)) → o ≡ max k (l + c) → StepsTo after (Stood.Items c o n)
     unfolding raising nodes
     leaves-reached after c o d q h p t =
         reached after (Stood.Items c o n) d

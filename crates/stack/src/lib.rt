@@ -192,7 +192,7 @@ pub fn beside(length: usize, count: usize, second: Stood) -> Pair
 }
 
 // QT: b's items, moved down over a's.
-pub fn keep(pair: Pair, work: &mut [i64], top: usize) -> Stood
+pub fn drop_first(pair: Pair, work: &mut [i64], top: usize) -> Stood
     requires { ⌜ FitPair top (length (now work)) pair ⌝ }
     ensures { λ r. ⌜ ((room : ℕ) → FitPair top room pair
         → Leaves top room (kept (paired (now (work .entry)) top pair)) (EndsPair pair) (now (work .entry))

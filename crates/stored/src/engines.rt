@@ -13,8 +13,8 @@ pub enum Engine {
 
 fn tell_evaluated(answer: Evaluated) {
     match answer {
-        Evaluated::Items { number, count } => {
-            cases::say(b"items ", number);
+        Evaluated::Items { items, count } => {
+            cases::say(b"items ", items);
             cases::say(b" count ", count);
         }
         Evaluated::Unsound(place) => cases::refused(1, place),

@@ -254,24 +254,24 @@ free-bound (QX at x t a) vs v c f = free-bound a vs v c f
 
 -- A query means the same where its free variables hold the same
 
-abbrev Agree : (ℕ → Bool) → Env → Env → Type 0
-Agree free e e′ = (v : ℕ) → free v ≡ true → e v ≡ e′ v
+abbrev AgreeOn : (ℕ → Bool) → Env → Env → Type 0
+AgreeOn free e e′ = (v : ℕ) → free v ≡ true → e v ≡ e′ v
 
 -- the variables that are free in q
 abbrev frees : Query → ℕ → Bool
 frees q v = free v q
 
 module _ (f g : ℕ → Bool) {e e′ : Env} where
-  agree-left : Agree (λ v. f v || g v) e e′ → Agree f e e′
+  agree-left : AgreeOn (λ v. f v || g v) e e′ → AgreeOn f e e′
   agree-left h v t = h v (or-left (f v) (g v) t)
 
-  agree-right : Agree (λ v. f v || g v) e e′ → Agree g e e′
+  agree-right : AgreeOn (λ v. f v || g v) e e′ → AgreeOn g e e′
   agree-right h v t = h v (or-right (f v) (g v) t)
 
   -- under a binding of u
   agree-bind :
-      (u : ℕ) (xs : List ℤ) → Agree (λ v. f v || (not (eqb v u) && g v)) e e′
-      → Agree g (bind u xs e) (bind u xs e′)
+      (u : ℕ) (xs : List ℤ) → AgreeOn (λ v. f v || (not (eqb v u) && g v)) e e′
+      → AgreeOn g (bind u xs e) (bind u xs e′)
   unfolding bind
   agree-bind u xs h v t = go (eqb v u) (h v)
     where

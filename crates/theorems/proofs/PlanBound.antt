@@ -1,7 +1,7 @@
 -- A plan never has more than 37 operators per query record plus 3 (document 01, 'Translation').
 --     length-freeIn, length-othersIn    at most 8 variables are lifted for a part
 --     length-lifts                      two operators for each lifted variable
---     Short os k, Few x k               os, the operators of x, are at most k
+--     ShortPlan os k, Few x k           os, the operators of x, are at most k
 --     tr-bound                          a query's operators are at most 37 per record
 --     plan-bound                        the whole plan: one operator before them and two after them
 use Prim.Native.Nat.{ℕ, suc, _+_, _*_, _≤_}
@@ -48,13 +48,13 @@ length-othersIn v q = length-filter (λ u. not (eqb u v) && free u q) (below 8)
 
 -- bounds add up along the parts of a rule
 
-record Short (os : List Op) (k : ℕ) : Type 0 where
+record ShortPlan (os : List Op) (k : ℕ) : Type 0 where
   most : length os ≤ k
 
 record Few (x : Made) (k : ℕ) : Type 0 where
   most : length (x .ops) ≤ k
 
-few-then : {os : List Op} {y : Made} {a b : ℕ} → Short os a → Few y b → Few (then os y) (a + b)
+few-then : {os : List Op} {y : Made} {a b : ℕ} → ShortPlan os a → Few y b → Few (then os y) (a + b)
 unfolding then
 few-then h k = record { most = simp length-append (omega arith) }
 
@@ -62,17 +62,18 @@ few-within : {x : Made} {a b : ℕ} → Few x a → a ≤ b → Few x b
 few-within h k = record { most = le-trans (h .most) k }
 
 -- the operators of x by themselves
-short : {x : Made} {k : ℕ} → Few x k → Short (x .ops) k
+short : {x : Made} {k : ℕ} → Few x k → ShortPlan (x .ops) k
 short h = record { most = h .most }
 
 -- operators that are written out
-counted-short : (os : List Op) → Short os (length os)
+counted-short : (os : List Op) → ShortPlan os (length os)
 counted-short os = record { most = le-refl (length os) }
 
 counted : (x : Made) → Few x (length (x .ops))
 counted x = record { most = le-refl (length (x .ops)) }
 
-lifts-short : (e : Tables) (m : ℕ) (cs : List ℕ) (n : ℕ) (vs : List ℕ) → length vs ≤ 8 → Short (lifts e m cs n vs) 16
+lifts-short : (e : Tables) (m : ℕ) (cs : List ℕ) (n : ℕ) (vs : List ℕ) → length vs ≤ 8
+    → ShortPlan (lifts e m cs n vs) 16
 lifts-short e m cs n vs h = record { most = simp length-lifts (omega arith) }
 
 -- the sums of the rules stay within 37 for the rule's own record

@@ -39,7 +39,7 @@ use Rattle.meaning.specs.Written.{operatorBytes}
 use Rattle.theorems.proofs.PlanWidths.{every-append}
 use Rattle.theorems.specs.PlanWidths.{Every}
 use Rattle.theorems.specs.PlanFields.{Writable}
-use Rattle.theorems.specs.PlanBytes.{Back, Byte}
+use Rattle.theorems.specs.PlanBytes.{ReadsBack, Byte}
 
 -- Reading past xs
 
@@ -173,7 +173,7 @@ module _ (xs : List ℕ) (m t : ℕ) (h : t < 65536) (rest : List ℕ) where
       operator-marked (xs ++ record-of m t rest) (length xs) (0x5200 + m) _ mark-back
       (q ∙ sized-at xs (record-of m t rest) n o r (omega arith) p)
 
-back-RE : (t : ℕ) → t < 65536 → Back (RE t)
+back-RE : (t : ℕ) → t < 65536 → ReadsBack (RE t)
 unfolding operatorBytes bytesOf operatorOf
 back-RE t h xs ys =
     record-back xs 0x45 t h ys 4 (RE t) _ (omega arith) (ap (λ a. gives (RE a)) (table-back xs 0x45 t h ys)) refl
@@ -185,13 +185,13 @@ module _ (m t u : ℕ) (h : t < 65536) (k : u < 65536) (xs ys : List ℕ) where
       word-after xs (record-of m t (bytesOf 2 u ++ ys)) 4 2
       ∙ word-written (0x52 ∷ m ∷ t / 256 % 256 ∷ t % 256 ∷ []) ys 2 u k
 
-back-RU : (t u : ℕ) → t < 65536 → u < 65536 → Back (RU t u)
+back-RU : (t u : ℕ) → t < 65536 → u < 65536 → ReadsBack (RU t u)
 unfolding operatorBytes bytesOf operatorOf
 back-RU t u h k xs ys =
     record-back xs 0x55 t h (bytesOf 2 u ++ ys) 6 (RU t u) _ (omega arith)
     (ap₂ (λ a b. gives (RU a b)) (table-back xs 0x55 t h (bytesOf 2 u ++ ys)) (second-back 0x55 t u h k xs ys)) refl
 
-back-RD : (t u : ℕ) → t < 65536 → u < 65536 → Back (RD t u)
+back-RD : (t u : ℕ) → t < 65536 → u < 65536 → ReadsBack (RD t u)
 unfolding operatorBytes bytesOf operatorOf
 back-RD t u h k xs ys =
     record-back xs 0x44 t h (bytesOf 2 u ++ ys) 6 (RD t u) _ (omega arith)
@@ -208,15 +208,15 @@ column-back f m t c xs ys h q =
     (ap₂ (λ a b. gives (f a b)) (table-back xs m t h (c ∷ ys)) (byte-at xs (record-of m t (c ∷ ys)) 4))
     (q (xs ++ record-of m t (c ∷ ys)) (length xs))
 
-back-RS : (t c : ℕ) → t < 65536 → Back (RS t c)
+back-RS : (t c : ℕ) → t < 65536 → ReadsBack (RS t c)
 unfolding operatorBytes bytesOf operatorOf
 back-RS t c h xs ys = column-back RS 0x53 t c xs ys h (λ bs at. refl)
 
-back-RC : (t c : ℕ) → t < 65536 → Back (RC t c)
+back-RC : (t c : ℕ) → t < 65536 → ReadsBack (RC t c)
 unfolding operatorBytes bytesOf operatorOf
 back-RC t c h xs ys = column-back RC 0x43 t c xs ys h (λ bs at. refl)
 
-back-RK : (t c : ℕ) → t < 65536 → Back (RK t c)
+back-RK : (t c : ℕ) → t < 65536 → ReadsBack (RK t c)
 unfolding operatorBytes bytesOf operatorOf
 back-RK t c h xs ys = column-back RK 0x4B t c xs ys h (λ bs at. refl)
 
@@ -239,7 +239,7 @@ attach-back :
 unfolding attachAt provided
 attach-back bs at t y z a b p = rw (b, p, a)
 
-back-RA : (t : ℕ) (z : ℤ) → t < 65536 → plainIn (held z) ≡ true → Back (RA t z)
+back-RA : (t : ℕ) (z : ℤ) → t < 65536 → plainIn (held z) ≡ true → ReadsBack (RA t z)
 unfolding operatorBytes bytesOf operatorOf
 back-RA t z h p xs ys =
     let rest : List ℕ = bytesOf 8 (bits8 z) ++ ys in
@@ -248,7 +248,7 @@ back-RA t z h p xs ys =
     (table-back xs 0x41 t h rest) (cell-back t z h p xs ys) p)
     refl
 
-back-RO : (t k : ℕ) → t < 65536 → 1 ≤ k → k ≤ 255 → Back (RO t k)
+back-RO : (t k : ℕ) → t < 65536 → 1 ≤ k → k ≤ 255 → ReadsBack (RO t k)
 unfolding operatorBytes bytesOf operatorOf attempt
 back-RO t k h i j xs ys =
     let zs : List ℕ = record-of 0x4F t (k ∷ ys) in
@@ -256,7 +256,7 @@ back-RO t k h i j xs ys =
     (rw (byte-at xs zs 4, fragment-back k i j) (ap (λ a. gives (RO a k)) (table-back xs 0x4F t h (k ∷ ys))))
     refl
 
-back-RJ : (t c u d : ℕ) → t < 65536 → u < 65536 → Back (RJ t c u d)
+back-RJ : (t c u d : ℕ) → t < 65536 → u < 65536 → ReadsBack (RJ t c u d)
 unfolding operatorBytes bytesOf operatorOf
 back-RJ t c u d h k xs ys =
     let rest : List ℕ = c ∷ (bytesOf 2 u ++ (d ∷ ys)) in
@@ -279,7 +279,7 @@ project-back :
 unfolding projectAt provided
 project-back bs at t cs a b i j = rw (le-leb 1 (length cs) i, le-leb (length cs) 6 j, a, b)
 
-back-RP : (t : ℕ) (cs : List ℕ) → t < 65536 → 1 ≤ length cs → length cs ≤ 6 → Back (RP t cs)
+back-RP : (t : ℕ) (cs : List ℕ) → t < 65536 → 1 ≤ length cs → length cs ≤ 6 → ReadsBack (RP t cs)
 unfolding operatorBytes bytesOf operatorOf columnsAt
 back-RP t cs h i j xs ys =
     let rest : List ℕ = length cs ∷ (cs ++ ys) in
@@ -300,7 +300,7 @@ number-back :
 unfolding numberAt provided
 number-back bs at t p ks a b c i j = rw (le-leb 1 (length ks) i, le-leb (length ks) 2 j, a, b, c)
 
-back-RN : (t p : ℕ) (ks : List ℕ) → t < 65536 → 1 ≤ length ks → length ks ≤ 2 → Back (RN t p ks)
+back-RN : (t p : ℕ) (ks : List ℕ) → t < 65536 → 1 ≤ length ks → length ks ≤ 2 → ReadsBack (RN t p ks)
 unfolding operatorBytes bytesOf operatorOf columnsAt
 back-RN t p ks h i j xs ys =
     let rest : List ℕ = p ∷ length ks ∷ (ks ++ ys) in
@@ -321,7 +321,7 @@ four-more : (n : ℕ) → 8 ≤ 4 + suc (suc (suc (suc n)))
 four-more n = omega arith
 
 -- a function of two columns, or of one
-back-RF : (t : ℕ) (f : Function) (c d : ℕ) → t < 65536 → Back (RF t f c d)
+back-RF : (t : ℕ) (f : Function) (c d : ℕ) → t < 65536 → ReadsBack (RF t f c d)
 unfolding operatorBytes bytesOf operatorOf functionAt attempt
 back-RF t f c d h xs ys =
     let rest : List ℕ = functionNumber f ∷ c ∷ d ∷ ys in
@@ -339,7 +339,7 @@ back-RF t f c d h xs ys =
     (rw (function-back f) (λ i. gives (RF (a i) f (b i) (e i))))
     (rw (number, function-not-7 f))
 
-back-RV : (t c : ℕ) → t < 65536 → Back (RV t c)
+back-RV : (t c : ℕ) → t < 65536 → ReadsBack (RV t c)
 unfolding operatorBytes bytesOf operatorOf functionAt
 back-RV t c h xs ys =
     let rest : List ℕ = 7 ∷ c ∷ ys in
@@ -357,7 +357,7 @@ step-back :
 unfolding stepAt attempt
 step-back bs at t x y a b c d = rw (b, axis-back x, c, d, test-back y, a)
 
-back-RX : (t : ℕ) (x : Axis) (y : Test) → t < 65536 → testName y < 65536 → Back (RX t x y)
+back-RX : (t : ℕ) (x : Axis) (y : Test) → t < 65536 → testName y < 65536 → ReadsBack (RX t x y)
 unfolding operatorBytes bytesOf operatorOf
 back-RX t x y h k xs ys =
     let rest : List ℕ = axisNumber x ∷ testNumber y ∷ (bytesOf 2 (testName y) ++ ys) in
@@ -373,7 +373,7 @@ back-RX t x y h k xs ys =
     (step-back bs (length xs) t x y (table-back xs 0x58 t h rest) axis test name)
     refl
 
-pub writable-back : (o : Op) → Writable o → Back o
+pub writable-back : (o : Op) → Writable o → ReadsBack o
 unfolding Writable
 writable-back RT w = back-RT
 writable-back (RA t z) w = back-RA t z (w .0) (w .1)

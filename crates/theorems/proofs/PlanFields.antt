@@ -26,7 +26,7 @@ use Rattle.theorems.proofs.PlanWidths.{every-getD, every-append, or-tru
 use Rattle.theorems.proofs.PlanWidths.{plan-widths}
 use Rattle.theorems.specs.PlanWidths.{Every, widths}
 use Rattle.laws.proofs.Booleans.{both-true}
-use Rattle.theorems.specs.PlanFields.{Own, Writable, Width, Fields, PlanSound}
+use Rattle.theorems.specs.PlanFields.{Own, Writable, WidthFits, Fields, PlanSound}
 
 -- What an operator needs to be written
 
@@ -37,7 +37,7 @@ columns-small w (c ∷ cs) h e =
     let (p, q) = both-true (ltb c w) (columns w cs) e in
     (omega (arith, ltb-true c w p), columns-small w cs h q)
 
-width-2 : Width 2
+width-2 : WidthFits 2
 width-2 = record { low = lit≤ tt; high = lit≤ tt }
 
 upTo6-is : (v w : ℕ) → upTo6 v ≡ gives w → (v ≤ 6) × (v ≡ w)
@@ -46,7 +46,7 @@ upTo6-is v w e =
     let (p, q) = provided-gives (leb v 6) (gives v) w e in
     (leb-true v 6 p, let r : v ≡ w = cc in r)
 
-upTo6-gives : (v w : ℕ) → 1 ≤ v → upTo6 v ≡ gives w → Width w
+upTo6-gives : (v w : ℕ) → 1 ≤ v → upTo6 v ≡ gives w → WidthFits w
 upTo6-gives v w h e =
     let (p, q) = upTo6-is v w e in
     record { low = omega arith; high = omega arith }
@@ -57,33 +57,33 @@ sum-low v x h = omega arith
 -- a table that an operator names, of width w
 record Known (t w : ℕ) : Type 0 where
   small : t < 65536
-  width : Width w
+  width : WidthFits w
 
 -- a column that is there
-column-small : (c : ℕ) {w : ℕ} → Width w → ltb c w ≡ true → c < 256
+column-small : (c : ℕ) {w : ℕ} → WidthFits w → ltb c w ≡ true → c < 256
 column-small c {w} h e = omega (arith, ltb-true c w e, h .high)
 
-group-small : (p : ℕ) {w : ℕ} → Width w → eqb p 255 || ltb p w ≡ true → p < 256
+group-small : (p : ℕ) {w : ℕ} → WidthFits w → eqb p 255 || ltb p w ≡ true → p < 256
 group-small p {w} h e = or-true (eqb p 255) (ltb p w) (λ a. omega (arith, eqb-true p 255 a)) (column-small p h) e
 
-more : (v w : ℕ) → upTo6 (v + 1) ≡ gives w → Width w
+more : (v w : ℕ) → upTo6 (v + 1) ≡ gives w → WidthFits w
 more v w e = upTo6-gives (v + 1) w (omega arith) e
 
-same-width : {v w : ℕ} → Width v → _≡_ {A = Attempt ℕ} (gives v) (gives w) → Width w
-same-width {v} {w} h e = subst Width (let r : v ≡ w = cc in r) h
+same-width : {v w : ℕ} → WidthFits v → _≡_ {A = Attempt ℕ} (gives v) (gives w) → WidthFits w
+same-width {v} {w} h e = subst WidthFits (let r : v ≡ w = cc in r) h
 
-record Checked (o : Op) (w : ℕ) : Type 0 where
+record CheckedOp (o : Op) (w : ℕ) : Type 0 where
   writable : Writable o
-  width : Width w
+  width : WidthFits w
 
 -- an operator that fits tables of widths 1 to 6, its own fields right, can be written and makes a width of 1 to 6
-module _ (ws : List ℕ) (hw : Every Width ws) (few : length ws ≤ 65536) where
+module _ (ws : List ℕ) (hw : Every WidthFits ws) (few : length ws ≤ 65536) where
   table-gives : (t w : ℕ) → tableWidth ws t ≡ gives w → Known t w
   unfolding tableWidth
   table-gives t w e =
       let (p, q) = provided-gives (ltb t (length ws)) (gives (getD ws t 0)) w e in
       let h = ltb-true t (length ws) p in
-      record { small = omega arith; width = same-width (every-getD Width ws t hw h) q }
+      record { small = omega arith; width = same-width (every-getD WidthFits ws t hw h) q }
 
   one-table :
       (t w : ℕ) (f : ℕ → Attempt ℕ) → attempt (tableWidth ws t) f ≡ gives w → (v : ℕ) × Known t v × (f v ≡ gives w)
@@ -116,7 +116,7 @@ module _ (ws : List ℕ) (hw : Every Width ws) (few : length ws ≤ 65536) where
       let (p, r) = provided-gives (ltb c v) (f v) w q in
       (v, k, column-small c (k .width) p, r)
 
-  checked : (o : Op) (w : ℕ) → Own o → widthOf ws o ≡ gives w → Checked o w
+  checked : (o : Op) (w : ℕ) → Own o → widthOf ws o ≡ gives w → CheckedOp o w
   unfolding Own Writable widthOf
   checked RT w h e = record { writable = tt; width = same-width (record { low = lit≤ tt; high = lit≤ tt }) e }
   checked (RA t z) w h e =
@@ -180,14 +180,14 @@ module _ (ws : List ℕ) (hw : Every Width ws) (few : length ws ≤ 65536) where
       record { writable = (m .small, h .0, h .1); width = more v w q }
 
 pub widths-checked :
-    (os : List Op) (ws us : List ℕ) → Every Width ws → length ws + length os ≤ 65536 → Every Own os →
-    widths ws os ≡ gives us → Every Writable os × Every Width us
+    (os : List Op) (ws us : List ℕ) → Every WidthFits ws → length ws + length os ≤ 65536 → Every Own os →
+    widths ws os ≡ gives us → Every Writable os × Every WidthFits us
 unfolding widths Every
-widths-checked [] ws us hw few h e = (tt, subst (Every Width) (let p : ws ≡ us = cc in p) hw)
+widths-checked [] ws us hw few h e = (tt, subst (Every WidthFits) (let p : ws ≡ us = cc in p) hw)
 widths-checked (o ∷ os) ws us hw few h e =
     let (w, p, q) = attempt-gives (widthOf ws o) (λ w. widths (ws ++ (w ∷ [])) os) us e in
     let c = checked ws hw (omega arith) o w (h .0) p in
-    let more = every-append Width ws (w ∷ []) hw (c .width, tt) in
+    let more = every-append WidthFits ws (w ∷ []) hw (c .width, tt) in
     let (a, b) = widths-checked os (ws ++ (w ∷ [])) us more (simp length-append (omega arith)) (h .1) q in
     ((c .writable, a), b)
 

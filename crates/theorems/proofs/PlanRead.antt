@@ -48,7 +48,7 @@ use Rattle.theorems.proofs.Ranges.{variable-below, fragment-within}
 use Rattle.theorems.proofs.PlanSteps.{from-end, from-on, placed-is}
 use Rattle.theorems.proofs.PlanFields.{plan-sound}
 use Rattle.theorems.specs.PlanFields.{Writable, Fields}
-use Rattle.theorems.specs.PlanRead.{ClosedFields, widthsOf, places, PlanBack, Translated}
+use Rattle.theorems.specs.PlanRead.{ClosedFields, widthsOf, places, PlanBack, TranslatedPlan}
 
 -- The fields of a record that is read
 
@@ -67,28 +67,28 @@ RecordFields values = Unit
 RecordFields (step x t) = testName t < 65536
 
 -- what holds of all that an attempt gives
-abbrev Given : {A : Type 0} → (A → Type 0) → Attempt A → Type 0
-Given P a = (x : _) → a ≡ gives x → P x
+abbrev WhereGiven : {A : Type 0} → (A → Type 0) → Attempt A → Type 0
+WhereGiven P a = (x : _) → a ≡ gives x → P x
 
 given-cond :
-    {A : Type 0} (P : A → Type 0) (t : Bool) (a b : Attempt A) → (t ≡ true → Given P a) → Given P b →
-    Given P (cond t a b)
+    {A : Type 0} (P : A → Type 0) (t : Bool) (a b : Attempt A) → (t ≡ true → WhereGiven P a) → WhereGiven P b →
+    WhereGiven P (cond t a b)
 given-cond P true a b h k = h refl
 given-cond P false a b h k = k
 
-given-one : {A : Type 0} (P : A → Type 0) (x : A) → P x → Given P (gives x)
+given-one : {A : Type 0} (P : A → Type 0) (x : A) → P x → WhereGiven P (gives x)
 given-one P x h y e = subst P (let p : x ≡ y = cc in p) h
 
-given-none : {A : Type 0} (P : A → Type 0) → Given P fails
+given-none : {A : Type 0} (P : A → Type 0) → WhereGiven P fails
 given-none P y e = let z : _≡_ {A = ℕ} 0 1 = cc in absurd (omega arith)
 
 given-provided :
-    {A : Type 0} (P : A → Type 0) (t : Bool) (a : Attempt A) → (t ≡ true → Given P a) → Given P (provided t a)
+    {A : Type 0} (P : A → Type 0) (t : Bool) (a : Attempt A) → (t ≡ true → WhereGiven P a) → WhereGiven P (provided t a)
 given-provided P t a h x e = let (p, q) = provided-gives t a x e in h p x q
 
 given-attempt :
-    {A B : Type 0} (P : B → Type 0) (a : Attempt A) (f : A → Attempt B) → ((x : A) → a ≡ gives x → Given P (f x)) →
-    Given P (attempt a f)
+    {A B : Type 0} (P : B → Type 0) (a : Attempt A) (f : A → Attempt B) → ((x : A) → a ≡ gives x → WhereGiven P (f x)) →
+    WhereGiven P (attempt a f)
 given-attempt P a f h y e = let (x, p, q) = attempt-gives a f y e in h x p y q
 
 -- bytes
@@ -117,7 +117,7 @@ int4-plain : (bs : List ℕ) (at : ℕ) → ((i : ℕ) → byteAt bs i < 256) �
 unfolding int4
 int4-plain bs at h = signed-plain (word bs at 4) (omega (arith, word-small bs at 4 h))
 
-boolean-plain : (b : ℕ) → Given (λ z. plainIn (held z) ≡ true) (booleanOf b)
+boolean-plain : (b : ℕ) → WhereGiven (λ z. plainIn (held z) ≡ true) (booleanOf b)
 unfolding booleanOf plainIn held
 boolean-plain b =
     given-cond _ (eqb b 0) _ _ (λ e. given-one _ falseCell refl)
@@ -127,24 +127,25 @@ module _ (bs : List ℕ) (at : ℕ) (h : (i : ℕ) → byteAt bs i < 256) where
   abbrev First : Record × ℕ → Type 0
   First x = RecordFields (x .0)
 
-  sized-fields : (n : ℕ) (a : Attempt Record) → Given RecordFields a → Given First (sized bs at n a)
+  sized-fields : (n : ℕ) (a : Attempt Record) → WhereGiven RecordFields a → WhereGiven First (sized bs at n a)
   unfolding sized
   sized-fields n a g =
       given-provided First (fits bs at n) _ (λ e. given-attempt First a _ (λ r p. given-one First (r, at + n) (g r p)))
 
-  plain : (n : ℕ) (r : Record) → RecordFields r → Given First (sized bs at n (gives r))
+  plain : (n : ℕ) (r : Record) → RecordFields r → WhereGiven First (sized bs at n (gives r))
   plain n r g = sized-fields n (gives r) (given-one RecordFields r g)
 
   field :
       {A : Type 0} (n : ℕ) (a : Attempt A) (f : A → Record) →
-      Given (λ x. RecordFields (f x)) a → Given First (sized bs at n (attempt a (λ x. gives (f x))))
+      WhereGiven (λ x. RecordFields (f x)) a → WhereGiven First (sized bs at n (attempt a (λ x. gives (f x))))
   field n a f g =
       sized-fields n (attempt a (λ x. gives (f x)))
       (given-attempt RecordFields a (λ x. gives (f x)) (λ x p. given-one RecordFields (f x) (g x p)))
 
   step-fields :
       (a : Attempt Axis) (t : ℕ) →
-      Given First (sized bs at 6 (attempt a (λ x. attempt (testOf t (word bs (at + 4) 2)) (λ y. gives (step x y)))))
+      WhereGiven First
+      (sized bs at 6 (attempt a (λ x. attempt (testOf t (word bs (at + 4) 2)) (λ y. gives (step x y)))))
   unfolding RecordFields
   step-fields a t =
       sized-fields 6 _
@@ -154,7 +155,7 @@ module _ (bs : List ℕ) (at : ℕ) (h : (i : ℕ) → byteAt bs i < 256) where
       (λ y q.
       given-one RecordFields (step x y) (name-fits t (word bs (at + 4) 2) (word-small bs (at + 4) 2 h) .given y q))))
 
-  record-fields : (mark : ℕ) → Given First (recordOf bs at mark)
+  record-fields : (mark : ℕ) → WhereGiven First (recordOf bs at mark)
   unfolding recordOf RecordFields
   record-fields mark =
       let b = byteAt bs (at + 2) in
@@ -234,53 +235,54 @@ three-tree P Q R S f c a b g h k m r e =
     two-tree Q R S (f (x .tree)) (a (x .records) (x .next)) b
     (λ y z. g (x .tree) y z (h x p)) (k (x .records) (x .next)) m r q
 
-abbrev In : List ℕ → Query → Type 0
-In vs q = ClosedFields q vs
+abbrev ReadIn : List ℕ → Query → Type 0
+ReadIn vs q = ClosedFields q vs
 
-module _ (rd : Operand) (ih : (vs : List ℕ) (n at : ℕ) → Trees (In vs) (rd vs n at)) (vs : List ℕ) (at n next : ℕ) where
-  variable-accepted : (v : ℕ) → v < 8 → Trees (In vs) (unless (bound v vs) 3 at (leaf (QV at v) next n))
+module _ (rd : Operand) (ih : (vs : List ℕ) (n at : ℕ)
+    → Trees (ReadIn vs) (rd vs n at)) (vs : List ℕ) (at n next : ℕ) where
+  variable-accepted : (v : ℕ) → v < 8 → Trees (ReadIn vs) (unless (bound v vs) 3 at (leaf (QV at v) next n))
   unfolding Fields
   variable-accepted v h r e =
       let (b, q) = unless-reads (bound v vs) 3 at (leaf (QV at v) next n) r e in
-      leaf-tree (In vs) (QV at v) next n (record { closed = (b, h); fields = tt }) r q
+      leaf-tree (ReadIn vs) (QV at v) next n (record { closed = (b, h); fields = tt }) r q
 
-  operands-accepted : (k : Record) → RecordFields k → Trees (In vs) (operands rd vs at n next k)
+  operands-accepted : (k : Record) → RecordFields k → Trees (ReadIn vs) (operands rd vs at n next k)
   unfolding operands RecordFields Fields
-  operands-accepted (literal z) h = leaf-tree (In vs) (QL at z) next n (record { closed = tt; fields = h })
-  operands-accepted empty h = leaf-tree (In vs) (QE at) next n (record { closed = tt; fields = tt })
-  operands-accepted (root k) h = leaf-tree (In vs) (QR at k) next n (record { closed = tt; fields = h })
+  operands-accepted (literal z) h = leaf-tree (ReadIn vs) (QL at z) next n (record { closed = tt; fields = h })
+  operands-accepted empty h = leaf-tree (ReadIn vs) (QE at) next n (record { closed = tt; fields = tt })
+  operands-accepted (root k) h = leaf-tree (ReadIn vs) (QR at k) next n (record { closed = tt; fields = h })
   operands-accepted (variable v) h = variable-accepted v h
   operands-accepted sequence h =
-      two-tree (In vs) (In vs) (In vs) (QS at) (rd vs n next) (rd vs)
+      two-tree (ReadIn vs) (ReadIn vs) (ReadIn vs) (QS at) (rd vs n next) (rd vs)
       (λ p q x y. record { closed = (x .closed, y .closed); fields = (x .fields, y .fields) })
       (ih vs n next) (ih vs)
   operands-accepted (letting v) h =
-      two-tree (In vs) (In (v ∷ vs)) (In vs) (QT at v) (rd vs n next) (rd (v ∷ vs))
+      two-tree (ReadIn vs) (ReadIn (v ∷ vs)) (ReadIn vs) (QT at v) (rd vs n next) (rd (v ∷ vs))
       (λ p q x y. record { closed = (h, x .closed, y .closed); fields = (x .fields, y .fields) })
       (ih vs n next) (ih (v ∷ vs))
   operands-accepted (for v) h =
-      two-tree (In vs) (In (v ∷ vs)) (In vs) (QF at v) (rd vs n next) (rd (v ∷ vs))
+      two-tree (ReadIn vs) (ReadIn (v ∷ vs)) (ReadIn vs) (QF at v) (rd vs n next) (rd (v ∷ vs))
       (λ p q x y. record { closed = (h, x .closed, y .closed); fields = (x .fields, y .fields) })
       (ih vs n next) (ih (v ∷ vs))
   operands-accepted choice h =
-      three-tree (In vs) (In vs) (In vs) (In vs) (QI at) (rd vs n next) (rd vs) (rd vs)
+      three-tree (ReadIn vs) (ReadIn vs) (ReadIn vs) (ReadIn vs) (QI at) (rd vs n next) (rd vs) (rd vs)
       (λ o p q x y z.
       record { closed = (x .closed, y .closed, z .closed); fields = (x .fields, y .fields, z .fields) })
       (ih vs n next) (ih vs) (ih vs)
   operands-accepted (function f) h =
-      two-tree (In vs) (In vs) (In vs) (QO at f) (rd vs n next) (rd vs)
+      two-tree (ReadIn vs) (ReadIn vs) (ReadIn vs) (QO at f) (rd vs n next) (rd vs)
       (λ p q x y. record { closed = (x .closed, y .closed); fields = (x .fields, y .fields) })
       (ih vs n next) (ih vs)
   operands-accepted counting h =
-      one-tree (In vs) (In vs) (QC at) (rd vs n next)
+      one-tree (ReadIn vs) (ReadIn vs) (QC at) (rd vs n next)
       (λ q x. record { closed = x .closed; fields = x .fields })
       (ih vs n next)
   operands-accepted values h =
-      one-tree (In vs) (In vs) (QD at) (rd vs n next)
+      one-tree (ReadIn vs) (ReadIn vs) (QD at) (rd vs n next)
       (λ q x. record { closed = x .closed; fields = x .fields })
       (ih vs n next)
   operands-accepted (step x t) h =
-      one-tree (In vs) (In vs) (QX at x t) (rd vs n next)
+      one-tree (ReadIn vs) (ReadIn vs) (QX at x t) (rd vs n next)
       (λ q y. record { closed = y .closed; fields = (h, y .fields) })
       (ih vs n next)
 
@@ -506,7 +508,7 @@ take-padded lent m xs e = take-at xs _ m (sym e)
 
 pub translated :
     (query : List ℕ) (lent n m : ℕ) → translateCall query lent .answer ≡ Calls.gives (n ∷ m ∷ []) →
-    Translated query lent n m
+    TranslatedPlan query lent n m
 unfolding translateCall translateOutcome
 translated query lent n m e =
     let (os, p, hn, hm) = outcome-reads lent n m (reading (queryRead query) (λ r. planOf lent (r .tree))) e in

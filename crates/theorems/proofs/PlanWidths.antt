@@ -24,7 +24,7 @@ use Rattle.meaning.specs.Translation.{Made, Tables, next, hold, freeIn, othersI
 use Rattle.meaning.specs.Translation.{tailS, headF, tailF, headI, tailO, tailC, tailD, tailX, then, tr, tailLast, plan}
 use Rattle.theorems.proofs.Closed.{free-bound}
 use Rattle.theorems.specs.Closed.{Closed}
-use Rattle.theorems.specs.PlanWidths.{Every, widths, TableWide, Fits, Ends, Steps, WellMade, Env}
+use Rattle.theorems.specs.PlanWidths.{Every, widths, TableWide, Fits, EndsWide, StepsWide, WellMade, EnvWide}
 
 -- Lists, tests and attempts
 
@@ -201,20 +201,20 @@ widths-then (o ∷ os) ps ws us vs e f =
     let (w, p, q) = attempt-gives (widthOf ws o) (λ w. widths (ws ++ (w ∷ [])) os) us e in
     attempt-of (widthOf ws o) (λ w. widths (ws ++ (w ∷ [])) (os ++ ps)) p (widths-then os ps (ws ++ (w ∷ [])) us vs q f)
 
-kept : {ws us : List ℕ} {os : List Op} {t w : ℕ} → Ends ws os us → TableWide ws t w → TableWide us t w
+kept : {ws us : List ℕ} {os : List Op} {t w : ℕ} → EndsWide ws os us → TableWide ws t w → TableWide us t w
 kept {ws} {us} {os} x h = widths-kept os ws us (x .is) h
 
-count : {ws us : List ℕ} {os : List Op} {n : ℕ} → Ends ws os us → n ≡ length ws → n + length os ≡ length us
+count : {ws us : List ℕ} {os : List Op} {n : ℕ} → EndsWide ws os us → n ≡ length ws → n + length os ≡ length us
 count {ws} {us} {os} x e = omega (arith, widths-count os ws us (x .is))
 
-ends-then : {ws us vs : List ℕ} {os ps : List Op} → Ends ws os us → Ends us ps vs → Ends ws (os ++ ps) vs
+ends-then : {ws us vs : List ℕ} {os ps : List Op} → EndsWide ws os us → EndsWide us ps vs → EndsWide ws (os ++ ps) vs
 ends-then {ws} {us} {vs} {os} {ps} x y = record { is = widths-then os ps ws us vs (x .is) (y .is) }
 
-sound-then : {ws us : List ℕ} {os : List Op} {y : Made} → Ends ws os us → WellMade us y → WellMade ws (then os y)
+sound-then : {ws us : List ℕ} {os : List Op} {y : Made} → EndsWide ws os us → WellMade us y → WellMade ws (then os y)
 unfolding then
 sound-then x y = record { after = y .after; ends = ends-then x (y .ends); result = y .result }
 
-ends-none : {ws : List ℕ} → Ends ws [] ws
+ends-none : {ws : List ℕ} → EndsWide ws [] ws
 unfolding widths
 ends-none = record { is = refl }
 
@@ -236,20 +236,20 @@ module _ (ws : List ℕ) {n : ℕ} (e : n ≡ length ws) where
 
   step :
       {vs : List ℕ} {o : Op} {os : List Op} {w : ℕ} {us : List ℕ} →
-      Fits (ws ++ vs) o w → Steps ws (vs ++ (w ∷ [])) os us → Steps ws vs (o ∷ os) us
+      Fits (ws ++ vs) o w → StepsWide ws (vs ++ (w ∷ [])) os us → StepsWide ws vs (o ∷ os) us
   unfolding widths
   step {vs} {o} {os} p q =
       let rest : ℕ → Attempt (List ℕ) = λ w. widths ((ws ++ vs) ++ (w ∷ [])) os in
       record { is = attempt-of (widthOf (ws ++ vs) o) rest (p .is) (rw append-assoc (q .is)) }
 
-  end : {us : List ℕ} → Steps ws us [] us
+  end : {us : List ℕ} → StepsWide ws us [] us
   unfolding widths
   end = record { is = refl }
 
-  steps : {os : List Op} {us : List ℕ} → Steps ws [] os us → Ends ws os (ws ++ us)
+  steps : {os : List Op} {us : List ℕ} → StepsWide ws [] os us → EndsWide ws os (ws ++ us)
   steps {os} {us} h = record { is = subst (λ xs. widths xs os ≡ gives (ws ++ us)) (append-nil ws) (h .is) }
 
-  made : {x : Made} (us : List ℕ) → Steps ws [] (x .ops) us → TableWide (ws ++ us) (x .result) 3 → WellMade ws x
+  made : {x : Made} (us : List ℕ) → StepsWide ws [] (x .ops) us → TableWide (ws ++ us) (x .result) 3 → WellMade ws x
   made us h r = record { after = ws ++ us; ends = steps h; result = r }
 
   sound-L : {l : ℕ} (z : ℤ) → TableWide ws l 1 → WellMade ws (ruleL n l z)
@@ -278,7 +278,7 @@ module _ (ws : List ℕ) {n : ℕ} (e : n ≡ length ws) where
       (step (fit-RP (new _ 3 tt) refl refl) end)))))
       (new _ 4 tt)
 
-  ends-F : {a : ℕ} → TableWide ws a 3 → Ends ws (headF n a) (ws ++ (4 ∷ 5 ∷ 3 ∷ 1 ∷ 2 ∷ []))
+  ends-F : {a : ℕ} → TableWide ws a 3 → EndsWide ws (headF n a) (ws ++ (4 ∷ 5 ∷ 3 ∷ 1 ∷ 2 ∷ []))
   unfolding headF columns all
   ends-F ha =
       steps
@@ -297,7 +297,7 @@ module _ (ws : List ℕ) {n : ℕ} (e : n ≡ length ws) where
       (step (fit-RP (new _ 1 tt) refl refl) end)))
       (new _ 2 tt)
 
-  ends-I : {l c : ℕ} → TableWide ws l 1 → TableWide ws c 3 → Ends ws (headI n l c) (ws ++ (2 ∷ 2 ∷ 1 ∷ 1 ∷ []))
+  ends-I : {l c : ℕ} → TableWide ws l 1 → TableWide ws c 3 → EndsWide ws (headI n l c) (ws ++ (2 ∷ 2 ∷ 1 ∷ 1 ∷ []))
   unfolding headI columns all
   ends-I hl hc =
       steps
@@ -349,7 +349,7 @@ module _ (ws : List ℕ) {n : ℕ} (e : n ≡ length ws) where
       (step (fit-RP (new _ 2 tt) refl refl) end))))
       (new _ 3 tt)
 
-  ends-last : {a : ℕ} → TableWide ws a 3 → Ends ws (tailLast n a) (ws ++ (4 ∷ 3 ∷ []))
+  ends-last : {a : ℕ} → TableWide ws a 3 → EndsWide ws (tailLast n a) (ws ++ (4 ∷ 3 ∷ []))
   unfolding tailLast columns all
   ends-last ha = steps (step (fit-RN (old _ ha) refl refl) (step (fit-RP (first _ _) refl refl) end))
 
@@ -361,8 +361,9 @@ bound-inner v u vs p h = rw p at h
 
 -- the variables in scope have tables of width 3
 
-env-kept : {ws us : List ℕ} {os : List Op} {e : Tables} {vs : List ℕ} → Ends ws os us → Env ws e vs → Env us e vs
-env-kept x h = record { at = λ v b. kept x (h .at v b) }
+env-kept : {ws us : List ℕ} {os : List Op} {e : Tables} {vs : List ℕ} → EndsWide ws os us → EnvWide ws e vs
+    → EnvWide us e vs
+env-kept x h = record { wide-at = λ v b. kept x (h .wide-at v b) }
 
 cond-wide :
     {ws : List ℕ} {t u w : ℕ} (b : Bool) → (b ≡ true → TableWide ws t w) → (b ≡ false → TableWide ws u w) →
@@ -371,17 +372,17 @@ cond-wide true f g = f refl
 cond-wide false f g = g refl
 
 env-hold :
-    {ws : List ℕ} {t : ℕ} {e : Tables} {vs : List ℕ} (v : ℕ) → TableWide ws t 3 → Env ws e vs
-    → Env ws (hold v t e) (v ∷ vs)
+    {ws : List ℕ} {t : ℕ} {e : Tables} {vs : List ℕ} (v : ℕ) → TableWide ws t 3 → EnvWide ws e vs
+    → EnvWide ws (hold v t e) (v ∷ vs)
 unfolding hold
 env-hold {vs} v ht h =
-    record { at = λ u b. cond-wide (eqb u v) (λ p. ht) (λ p. h .at u (bound-inner u v vs p b)) }
+    record { wide-at = λ u b. cond-wide (eqb u v) (λ p. ht) (λ p. h .wide-at u (bound-inner u v vs p b)) }
 
 -- Lifting: each variable is joined with table m, which is i wide, and three columns are projected
 
-record Lifted (ws : List ℕ) (e : Tables) (os : List Op) (f : Tables) : Type 0 where
+record LiftedWide (ws : List ℕ) (e : Tables) (os : List Op) (f : Tables) : Type 0 where
   after : List ℕ
-  ends : Ends ws os after
+  ends : EndsWide ws os after
   held : (u : ℕ) → TableWide ws (e u) 3 → TableWide after (f u) 3
 
 module _
@@ -392,7 +393,7 @@ module _
   where
     lift-one :
         (ws : List ℕ) {n t : ℕ} → n ≡ length ws → TableWide ws t 3 → TableWide ws m i →
-        Ends ws (RJ t 0 m 0 ∷ RP n (a ∷ b ∷ c ∷ []) ∷ []) (ws ++ ((3 + i) ∷ 3 ∷ []))
+        EndsWide ws (RJ t 0 m 0 ∷ RP n (a ∷ b ∷ c ∷ []) ∷ []) (ws ++ ((3 + i) ∷ 3 ∷ []))
     lift-one ws e ht hm =
         steps ws e
         (step ws e (fit-RJ (old ws e _ ht) (old ws e _ hm) q p) (step ws e (fit-RP (first ws e _ _) r refl) (end ws e)))
@@ -400,7 +401,7 @@ module _
     lift :
         (us : List ℕ) (ws : List ℕ) (n : ℕ) (e : Tables) → n ≡ length ws → Every (λ u. TableWide ws (e u) 3) us
         → TableWide ws m i →
-        Lifted ws e (lifts e m (a ∷ b ∷ c ∷ []) n us) (lifted e n us)
+        LiftedWide ws e (lifts e m (a ∷ b ∷ c ∷ []) n us) (lifted e n us)
     unfolding lifts lifted Every hold
     lift [] ws n e en h hm = record { after = ws; ends = ends-none; held = λ u k. k }
     lift (v ∷ us) ws n e en h hm =
@@ -418,37 +419,38 @@ module _
 -- the variables free in a part are lifted; those that are not lifted keep their tables
 
 env-lifted :
-    {ws : List ℕ} {e f : Tables} {os : List Op} {vs : List ℕ} (x : Lifted ws e os f) → Env ws e vs → Env (x .after) f vs
-env-lifted x h = record { at = λ u b. x .held u (h .at u b) }
+    {ws : List ℕ} {e f : Tables} {os : List Op} {vs : List ℕ} (x : LiftedWide ws e os f) → EnvWide ws e vs
+    → EnvWide (x .after) f vs
+env-lifted x h = record { wide-at = λ u b. x .held u (h .wide-at u b) }
 
 free-wide :
-    {ws : List ℕ} {e : Tables} {vs : List ℕ} (q : Query) → Closed q vs → Env ws e vs →
+    {ws : List ℕ} {e : Tables} {vs : List ℕ} (q : Query) → Closed q vs → EnvWide ws e vs →
     Every (λ u. TableWide ws (e u) 3) (freeIn q)
 unfolding freeIn
 free-wide {ws} {e} {vs} q c h =
-    every-filter (λ u. TableWide ws (e u) 3) (λ v. free v q) (λ v f. h .at v (free-bound q vs v c f .0)) (below 8)
+    every-filter (λ u. TableWide ws (e u) 3) (λ v. free v q) (λ v f. h .wide-at v (free-bound q vs v c f .0)) (below 8)
 
 others-wide :
-    {ws : List ℕ} {e : Tables} {vs : List ℕ} (v : ℕ) (q : Query) → Closed q (v ∷ vs) → Env ws e vs →
+    {ws : List ℕ} {e : Tables} {vs : List ℕ} (v : ℕ) (q : Query) → Closed q (v ∷ vs) → EnvWide ws e vs →
     Every (λ u. TableWide ws (e u) 3) (othersIn v q)
 unfolding othersIn
 others-wide {ws} {e} {vs} v q c h =
     every-filter (λ u. TableWide ws (e u) 3) (λ u. not (eqb u v) && free u q)
-    (λ u. other-true (eqb u v) (free u q) (λ n f. h .at u (bound-inner u v vs n (free-bound q (v ∷ vs) u c f .0))))
+    (λ u. other-true (eqb u v) (free u q) (λ n f. h .wide-at u (bound-inner u v vs n (free-bound q (v ∷ vs) u c f .0))))
     (below 8)
 
 -- The translation
 
-abbrev Keeps : Query → Type 0
-Keeps q =
-    (vs ws : List ℕ) (n l : ℕ) (e : Tables) → Closed q vs → n ≡ length ws → TableWide ws l 1 → Env ws e vs →
+abbrev KeepsWide : Query → Type 0
+KeepsWide q =
+    (vs ws : List ℕ) (n l : ℕ) (e : Tables) → Closed q vs → n ≡ length ws → TableWide ws l 1 → EnvWide ws e vs →
     WellMade ws (tr q n l e)
 
-keeps-QV : (at v : ℕ) → Keeps (QV at v)
+keeps-QV : (at v : ℕ) → KeepsWide (QV at v)
 unfolding tr
-keeps-QV at v vs ws n l e c en hl h = record { after = ws; ends = ends-none; result = h .at v (c .0) }
+keeps-QV at v vs ws n l e c en hl h = record { after = ws; ends = ends-none; result = h .wide-at v (c .0) }
 
-keeps-QS : (at : ℕ) (a b : Query) → Keeps a → Keeps b → Keeps (QS at a b)
+keeps-QS : (at : ℕ) (a b : Query) → KeepsWide a → KeepsWide b → KeepsWide (QS at a b)
 unfolding tr next
 keeps-QS at a b ha hb vs ws n l e c en hl h =
     let x = ha vs ws n l e (c .0) en hl h in
@@ -457,7 +459,7 @@ keeps-QS at a b ha hb vs ws n l e c en hl h =
     sound-then (x .ends)
     (sound-then (y .ends) (sound-S (y .after) (count (y .ends) en1) (kept (y .ends) (x .result)) (y .result)))
 
-keeps-QT : (at v : ℕ) (a b : Query) → Keeps a → Keeps b → Keeps (QT at v a b)
+keeps-QT : (at v : ℕ) (a b : Query) → KeepsWide a → KeepsWide b → KeepsWide (QT at v a b)
 unfolding tr next
 keeps-QT at v a b ha hb vs ws n l e c en hl h =
     let x = ha vs ws n l e (c .1) en hl h in
@@ -465,7 +467,7 @@ keeps-QT at v a b ha hb vs ws n l e c en hl h =
     (hb (v ∷ vs) (x .after) _ l _ (c .2) (count (x .ends) en) (kept (x .ends) hl)
     (env-hold v (x .result) (env-kept (x .ends) h)))
 
-keeps-QO : (at : ℕ) (f : Function) (a b : Query) → Keeps a → Keeps b → Keeps (QO at f a b)
+keeps-QO : (at : ℕ) (f : Function) (a b : Query) → KeepsWide a → KeepsWide b → KeepsWide (QO at f a b)
 unfolding tr next
 keeps-QO at f a b ha hb vs ws n l e c en hl h =
     let x = ha vs ws n l e (c .0) en hl h in
@@ -474,19 +476,19 @@ keeps-QO at f a b ha hb vs ws n l e c en hl h =
     sound-then (x .ends)
     (sound-then (y .ends) (sound-O (y .after) (count (y .ends) en1) f (kept (y .ends) (x .result)) (y .result)))
 
-keeps-QC : (at : ℕ) (a : Query) → Keeps a → Keeps (QC at a)
+keeps-QC : (at : ℕ) (a : Query) → KeepsWide a → KeepsWide (QC at a)
 unfolding tr next
 keeps-QC at a ha vs ws n l e c en hl h =
     let x = ha vs ws n l e c en hl h in
     sound-then (x .ends) (sound-C (x .after) (count (x .ends) en) (kept (x .ends) hl) (x .result))
 
-keeps-QD : (at : ℕ) (a : Query) → Keeps a → Keeps (QD at a)
+keeps-QD : (at : ℕ) (a : Query) → KeepsWide a → KeepsWide (QD at a)
 unfolding tr next
 keeps-QD at a ha vs ws n l e c en hl h =
     let x = ha vs ws n l e c en hl h in
     sound-then (x .ends) (sound-D (x .after) (count (x .ends) en) (x .result))
 
-keeps-QX : (at : ℕ) (x : Axis) (t : Test) (a : Query) → Keeps a → Keeps (QX at x t a)
+keeps-QX : (at : ℕ) (x : Axis) (t : Test) (a : Query) → KeepsWide a → KeepsWide (QX at x t a)
 unfolding tr next
 keeps-QX at axis test a ha vs ws n l e c en hl h =
     let x = ha vs ws n l e c en hl h in
@@ -499,8 +501,8 @@ forTail b k l map f =
     then (y .ops) (tailF (next k y) (y .result) map)
 
 sound-forTail :
-    (b : Query) (vs ws : List ℕ) (k l map : ℕ) (f : Tables) → Keeps b →
-    Closed b vs → k ≡ length ws → TableWide ws l 1 → TableWide ws map 2 → Env ws f vs
+    (b : Query) (vs ws : List ℕ) (k l map : ℕ) (f : Tables) → KeepsWide b →
+    Closed b vs → k ≡ length ws → TableWide ws l 1 → TableWide ws map 2 → EnvWide ws f vs
     → WellMade ws (forTail b k l map f)
 unfolding next
 sound-forTail b vs ws k l map f hb c ek hl hm h =
@@ -515,8 +517,8 @@ forBody v b m r e =
     then (headF m r) (then lift (forTail b (m + 5 + length lift) (m + 3) (m + 4) f))
 
 sound-for :
-    (v : ℕ) (b : Query) (vs ws : List ℕ) (m r : ℕ) (e : Tables) → Keeps b →
-    Closed b (v ∷ vs) → m ≡ length ws → TableWide ws r 3 → Env ws e vs → WellMade ws (forBody v b m r e)
+    (v : ℕ) (b : Query) (vs ws : List ℕ) (m r : ℕ) (e : Tables) → KeepsWide b →
+    Closed b (v ∷ vs) → m ≡ length ws → TableWide ws r 3 → EnvWide ws e vs → WellMade ws (forBody v b m r e)
 unfolding headF columns all
 sound-for v b vs ws m r e hb c em hr h =
     let head = ends-F ws em hr in
@@ -531,7 +533,7 @@ sound-for v b vs ws m r e hb c em hr h =
     (kept (x .ends) map)
     (env-hold v (kept (x .ends) (new ws em _ 2 tt)) (env-lifted x env))))
 
-keeps-QF : (at v : ℕ) (a b : Query) → Keeps a → Keeps b → Keeps (QF at v a b)
+keeps-QF : (at v : ℕ) (a b : Query) → KeepsWide a → KeepsWide b → KeepsWide (QF at v a b)
 unfolding tr next
 keeps-QF at v a b ha hb vs ws n l e c en hl h =
     let x = ha vs ws n l e (c .1) en hl h in
@@ -540,13 +542,13 @@ keeps-QF at v a b ha hb vs ws n l e c en hl h =
 
 -- a branch of `if` under loop table l, the lifted variables first; then what follows it
 branch :
-    (q : Query) (vs ws : List ℕ) (n l : ℕ) (e : Tables) → Keeps q →
-    Closed q vs → n ≡ length ws → TableWide ws l 1 → Env ws e vs →
+    (q : Query) (vs ws : List ℕ) (n l : ℕ) (e : Tables) → KeepsWide q →
+    Closed q vs → n ≡ length ws → TableWide ws l 1 → EnvWide ws e vs →
     let os = lifts e l (0 ∷ 1 ∷ 2 ∷ []) n (freeIn q) in
     let x = tr q (n + length os) l (lifted e n (freeIn q)) in
     (y : Made) →
     ((us : List ℕ) →
-    Ends ws (os ++ x .ops) us → n + length os + length (x .ops) ≡ length us → TableWide us (x .result) 3
+    EndsWide ws (os ++ x .ops) us → n + length os + length (x .ops) ≡ length us → TableWide us (x .result) 3
     → WellMade us y) →
     WellMade ws (then os (then (x .ops) y))
 unfolding columns all
@@ -566,8 +568,9 @@ elseBody b j l r e =
     then lift (then (y .ops) (record { ops = RU r (y .result) ∷ []; result = next k y }))
 
 sound-else :
-    (b : Query) (vs ws : List ℕ) (j l r : ℕ) (e : Tables) → Keeps b →
-    Closed b vs → j ≡ length ws → TableWide ws l 1 → TableWide ws r 3 → Env ws e vs → WellMade ws (elseBody b j l r e)
+    (b : Query) (vs ws : List ℕ) (j l r : ℕ) (e : Tables) → KeepsWide b →
+    Closed b vs → j ≡ length ws → TableWide ws l 1 → TableWide ws r 3 → EnvWide ws e vs
+    → WellMade ws (elseBody b j l r e)
 unfolding next
 sound-else b vs ws j l r e hb c ej hl hr h =
     branch b vs ws j l e hb c ej hl h _ (λ us done eu ry. sound-U us eu (kept done hr) ry)
@@ -580,8 +583,8 @@ choiceBody a b m l r e =
     then (headI m l r) (then lift (then (x .ops) (elseBody b (next i x) (m + 3) (x .result) e)))
 
 sound-choice :
-    (a b : Query) (vs ws : List ℕ) (m l r : ℕ) (e : Tables) → Keeps a → Keeps b → Closed a vs → Closed b vs →
-    m ≡ length ws → TableWide ws l 1 → TableWide ws r 3 → Env ws e vs → WellMade ws (choiceBody a b m l r e)
+    (a b : Query) (vs ws : List ℕ) (m l r : ℕ) (e : Tables) → KeepsWide a → KeepsWide b → Closed a vs → Closed b vs →
+    m ≡ length ws → TableWide ws l 1 → TableWide ws r 3 → EnvWide ws e vs → WellMade ws (choiceBody a b m l r e)
 unfolding next headI
 sound-choice a b vs ws m l r e ha hb ca cb em hl hr h =
     let head = ends-I ws em hl hr in
@@ -590,7 +593,7 @@ sound-choice a b vs ws m l r e ha hb ca cb em hl hr h =
     (branch a vs _ (m + 4) (m + 2) e ha ca (count head em) (new ws em _ 2 tt) env _
     (λ us done eu rx. sound-else b vs us _ (m + 3) _ e hb cb eu (kept done (new ws em _ 3 tt)) rx (env-kept done env)))
 
-keeps-QI : (at : ℕ) (c a b : Query) → Keeps c → Keeps a → Keeps b → Keeps (QI at c a b)
+keeps-QI : (at : ℕ) (c a b : Query) → KeepsWide c → KeepsWide a → KeepsWide b → KeepsWide (QI at c a b)
 unfolding tr next
 keeps-QI at c a b hc ha hb vs ws n l e p en hl h =
     let z = hc vs ws n l e (p .0) en hl h in
@@ -598,24 +601,24 @@ keeps-QI at c a b hc ha hb vs ws n l e p en hl h =
     (sound-choice a b vs (z .after) _ l _ e ha hb (p .1) (p .2) (count (z .ends) en) (kept (z .ends) hl) (z .result)
     (env-kept (z .ends) h))
 
-keeps-QL : (at : ℕ) (z : ℤ) → Keeps (QL at z)
+keeps-QL : (at : ℕ) (z : ℤ) → KeepsWide (QL at z)
 unfolding tr
 keeps-QL at z vs ws n l e c en hl h = sound-L ws en z hl
 
-keeps-QE : (at : ℕ) → Keeps (QE at)
+keeps-QE : (at : ℕ) → KeepsWide (QE at)
 unfolding tr
 keeps-QE at vs ws n l e c en hl h = sound-E ws en hl
 
-keeps-QR : (at k : ℕ) → Keeps (QR at k)
+keeps-QR : (at k : ℕ) → KeepsWide (QR at k)
 unfolding tr
 keeps-QR at k vs ws n l e c en hl h = sound-R ws en k hl
 
 -- after tables of widths ws, under a loop table of width 1 and variables of width 3, each rule is sound
 pub tr-sound :
     (q : Query) (vs ws : List ℕ) (n l : ℕ) (e : Tables) →
-    Closed q vs → n ≡ length ws → TableWide ws l 1 → Env ws e vs → WellMade ws (tr q n l e)
+    Closed q vs → n ≡ length ws → TableWide ws l 1 → EnvWide ws e vs → WellMade ws (tr q n l e)
 tr-sound q =
-    elim q as (λ q. Keeps q) [
+    elim q as (λ q. KeepsWide q) [
       | QL at z ↦ keeps-QL at z
       | QE at ↦ keeps-QE at
       | QR at k ↦ keeps-QR at k
@@ -631,13 +634,13 @@ tr-sound q =
     ]
 
 -- under the first loop table, with no variables
-first-loop : Ends [] (RT ∷ []) (1 ∷ [])
+first-loop : EndsWide [] (RT ∷ []) (1 ∷ [])
 unfolding widths widthOf attempt
 first-loop = record { is = refl }
 
-no-variables : (ws : List ℕ) (e : Tables) → Env ws e []
+no-variables : (ws : List ℕ) (e : Tables) → EnvWide ws e []
 unfolding bound any
-no-variables ws e = record { at = λ v b. absurd (false≢true b) }
+no-variables ws e = record { wide-at = λ v b. absurd (false≢true b) }
 
 -- the widths of a whole plan, the last of them 3
 pub plan-widths : (q : Query) → Closed q [] → (ws : List ℕ) × (widths [] (plan q) ≡ gives (ws ++ (3 ∷ [])))

@@ -1,7 +1,7 @@
 -- What the operators of a translated plan need to be written (document 01, 'Plan operators' and 'Translation').
 --     Own o             o's own fields, those that name no table and no column, can be written
 --     Writable o        all fields of o can be written: tables in two bytes and columns in one
---     Width w           w is 1 to 6
+--     WidthFits w       w is 1 to 6
 --     Fields q          the literals, roots and names of q can be written
 --     PlanSound os      the operators fit and can be written, every width is 1 to 6, the last 3
 use Prim.Native.Nat.{ℕ, _+_, _≤_, _<_}
@@ -53,7 +53,7 @@ Writable (RX t x y) = (t < 65536) × (testName y < 65536)
 Writable (RO t k) = (t < 65536) × (1 ≤ k) × (k ≤ 255)
 
 -- a width is 1 to 6
-pub record Width (w : ℕ) : Type 0 where
+pub record WidthFits (w : ℕ) : Type 0 where
   pub low : 1 ≤ w
   pub high : w ≤ 6
 
@@ -75,5 +75,5 @@ Fields (QX at x t a) = (testName t < 65536) × Fields a
 pub record PlanSound (os : List Op) : Type 0 where
   pub front : List ℕ
   pub sound : widths [] os ≡ gives (front ++ (3 ∷ []))
-  pub each : Every Width (front ++ (3 ∷ []))
+  pub each : Every WidthFits (front ++ (3 ∷ []))
   pub writable : Every Writable os

@@ -3,7 +3,7 @@
 --     widthsOf ps         the widths of the tables of operators ps
 --     places at os ws     operators with the offsets where their records start, from at on, and with widths ws
 --     PlanBack os ps      the plan os is sound, its bytes are bytes, and they read as ps, which are os in place
---     Translated ..       the first m lent bytes are the plan of the query, which has n operators, at most 512
+--     TranslatedPlan ..   the first m lent bytes are the plan of the query, which has n operators, at most 512
 use Prim.Native.Nat.{ℕ, _+_, _≤_}
 use mathlib.Core.Path.{_≡_}
 use mathlib.Core.List.{List, [], _∷_, _++_, map}
@@ -16,7 +16,7 @@ use Rattle.meaning.specs.Written.{operatorBytes, written}
 use Rattle.meaning.specs.Calls.{translateCall}
 use Rattle.theorems.specs.Closed.{Closed}
 use Rattle.theorems.specs.PlanBytes.{Byte}
-use Rattle.theorems.specs.PlanFields.{Width, Fields}
+use Rattle.theorems.specs.PlanFields.{WidthFits, Fields}
 use Rattle.theorems.specs.PlanWidths.{Every, widths}
 
 abbrev pub widthsOf : List Placed → List ℕ
@@ -36,14 +36,14 @@ places at (o ∷ os) (w ∷ ws) = record { at = at; op = o; width = w } ∷ plac
 pub record PlanBack (os : List Op) (ps : List Placed) : Type 0 where
   pub front : List ℕ
   pub sound : widths [] os ≡ gives (front ++ (3 ∷ []))
-  pub each : Every Width (front ++ (3 ∷ []))
+  pub each : Every WidthFits (front ++ (3 ∷ []))
   pub bytes : Every Byte (written os)
   pub room : length (written os) ≤ 6144
   pub back : planRead (written os) ≡ reads ps
   pub ops : map (λ (p : Placed). p .op) ps ≡ os
   pub placed : ps ≡ places 0 os (front ++ (3 ∷ []))
 
-pub record Translated (query : List ℕ) (lent n m : ℕ) : Type 0 where
+pub record TranslatedPlan (query : List ℕ) (lent n m : ℕ) : Type 0 where
   pub read : Read
   pub accepted : queryRead query ≡ reads read
   pub operators : n ≡ length (plan (read .tree))

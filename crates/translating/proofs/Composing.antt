@@ -19,7 +19,7 @@ use Rattle.adding.specs.declared.Pen.{Pen}
 use Rattle.adding.specs.declared.Output.{Output}
 use Rattle.scopes.specs.declared.Lifted.{Lifted}
 use Rattle.adding.specs.Ruled.{Wrote, Ruled}
-use Rattle.scopes.specs.Lifts.{Lifts, Holds, flagged, choice}
+use Rattle.scopes.specs.Lifts.{Lifts, HoldsTables, flagged, choice}
 use Rattle.adding.proofs.Adding.{ruled-then}
 use Rattle.scopes.proofs.Lifting.{hold-holds, flagged-free, flagged-others, lifts-wrote, lifts-holds}
 use Rattle.translating.specs.Translating.{Tree, Two, Three, Makes, MakesBranch, branched}
@@ -56,14 +56,15 @@ one-made tail a l e g t = ruled-then (g .wrote) (ruled-is (tail-is tail (g .wrot
 module _
     (rd : ℕ → Parsed) {at l : ℕ} {ts x y : List ℕ} {p : Pen} {r : Output} (o : Two rd at)
     (m : Makes (rd at) l ts x p y r)
-    (e : Tables) (h : Holds ts e) where
+    (e : Tables) (h : HoldsTables ts e) where
   -- a's part
   first : Ruled (tr (o .a .q) (p .operators) l e) (o .a .end) x p y r
   first = m .made (o .a) e h
 
   -- b's part, by the numbers of the definitions
   second :
-      {k : ℕ} {us z : List ℕ} {s : Output} → Makes (rd (r .next)) k us y (r .pen) z s → (f : Tables) → Holds us f →
+      {k : ℕ} {us z : List ℕ} {s : Output} → Makes (rd (r .next)) k us y (r .pen) z s → (f : Tables)
+      → HoldsTables us f →
       Ruled (tr (o .b .q) (next (p .operators) (tr (o .a .q) (p .operators) l e)) k f) (o .b .end) y (r .pen) z s
   unfolding next
   second {k} g f i =
@@ -146,7 +147,8 @@ module _
     at-lift = lift′ .count ∙ ap (λ (i : ℕ). i + length (lifts e (m′ + 4) (4 ∷ 1 ∷ 2 ∷ []) (m′ + 5) us)) at-head
 
     holds′ :
-        Holds (set (a .tables) v (r .pen .operators + 2)) (hold v (r .pen .operators + 2) (lifted e (q .operators) us))
+        HoldsTables (set (a .tables) v (r .pen .operators + 2))
+        (hold v (r .pen .operators + 2) (lifted e (q .operators) us))
     holds′ =
         hold-holds (a .tables) (lifted e (q .operators) us) v (r .pen .operators + 2) inner
         (lifts-holds ts _ _ (set fs v false) _ _ _ a lift e h us others)
@@ -184,7 +186,7 @@ pub branch-made :
     {d : Parsed} {l : ℕ} {ts : List ℕ} (fs : List Bool) {x y z : List ℕ} {p : Pen} {a : Lifted} {r : Output} →
     Free d fs →
     Lifts ts l (0 ∷ 1 ∷ 2 ∷ []) (flagged fs 8) x p y a → Makes d l (a .tables) y (a .pen) z r →
-    (t : Tree d) (e : Tables) → Holds ts e → Ruled (branched (t .q) (p .operators) l e) (t .end) x p z r
+    (t : Tree d) (e : Tables) → HoldsTables ts e → Ruled (branched (t .q) (p .operators) l e) (t .end) x p z r
 unfolding branched
 branch-made {l = l} {ts} fs {x} {y} {z} {p} {a} free lift body t e h =
     let us = flagged-free fs (t .q) (free (t .q, t .end) (t .given)) in
@@ -246,7 +248,7 @@ module _
     (yea : MakesBranch (rd (r .next)) (r .pen .operators + 2) ts z q w s)
     (nay : MakesBranch (rd (s .next)) (r .pen .operators + 3) ts w (s .pen) b k)
     (tail : Ruled (choice (k .pen .operators) (s .table) (k .table)) (k .next) b (k .pen) t u)
-    (e : Tables) (h : Holds ts e) where
+    (e : Tables) (h : HoldsTables ts e) where
   condition : Ruled (tr (o .c .q) (p .operators) l e) (o .c .end) x p y r
   condition = c .made (o .c) e h
 

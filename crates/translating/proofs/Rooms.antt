@@ -22,26 +22,26 @@ use Rattle.query_walks.specs.Parse.{Parsed}
 use Rattle.adding.specs.declared.Pen.{Pen}
 use Rattle.adding.specs.declared.Output.{Output}
 use Rattle.scopes.specs.declared.Lifted.{Lifted}
-use Rattle.adding.specs.Ruled.{Room, Wrote, Ruled}
-use Rattle.scopes.specs.Lifts.{Lifts, Holds, tablesOf, flagged}
+use Rattle.adding.specs.Ruled.{PenRoom, Wrote, Ruled}
+use Rattle.scopes.specs.Lifts.{Lifts, HoldsTables, tablesOf, flagged}
 use Rattle.adding.proofs.Adding.{wrote-room}
 use Rattle.scopes.proofs.Lifting.{lifts-all-room}
 use Rattle.translating.specs.Translating.{Tree, Asked, AskedOne, AskedTwo, AskedThree, AskedBranch}
 use Rattle.translating.specs.Translating.{Makes, MakesBranch, branched}
 
-pub room-less : {p : Pen} {k : ℕ} (j : ℕ) → Room p k → j ≤ k → Room p j
+pub room-less : {p : Pen} {k : ℕ} (j : ℕ) → PenRoom p k → j ≤ k → PenRoom p j
 room-less j h l = record { few = omega arith; short = h .short }
 
 pub room-after :
     (q : Query) (n l : ℕ) (e : Tables) {next : ℕ} {x y : List ℕ} {p : Pen} {r : Output} →
-    Ruled (tr q n l e) next x p y r → (j k : ℕ) → Room p k → 37 * records q + j ≤ k → Room (r .pen) j
+    Ruled (tr q n l e) next x p y r → (j k : ℕ) → PenRoom p k → 37 * records q + j ≤ k → PenRoom (r .pen) j
 room-after q n l e g j k h b = wrote-room (g .wrote) j k h (omega (arith, tr-bound q n l e))
 
 abbrev pub moved : (rd : ℕ → Parsed) {m n : ℕ} → m ≡ n → Tree (rd n) → Tree (rd m)
 moved rd e t = record { q = t .q; end = t .end; given = ap rd e ∙ t .given }
 
 -- the row's own tables
-pub own : (ts : List ℕ) → Holds ts (tablesOf ts)
+pub own : (ts : List ℕ) → HoldsTables ts (tablesOf ts)
 own ts v h = refl
 
 -- what an operand leaves, over the row's own tables
@@ -57,7 +57,7 @@ module _ (f : Query → Query) (more : (a : Query) → records (f a) ≡ suc (re
 
   pub one-room :
       {d : Parsed} {l : ℕ} {ts x y : List ℕ} {p : Pen} {r : Output} → AskedOne f d p → Makes d l ts x p y r →
-      Room (r .pen) 37
+      PenRoom (r .pen) 37
   one-room h m =
       let t = h .operand in
       room-after (t .q) _ _ _ (ruled-own m t) 37 _ (h .room) (omega (arith, more (t .q)))
@@ -72,7 +72,7 @@ module _ (f : Query → Query → Query) (more : (a b : Query) → records (f a 
       (rd : ℕ → Parsed) (at : ℕ) (p : Pen) (h : AskedTwo f rd at p) {l : ℕ} {ts x y : List ℕ} {r : Output}
       (m : Makes (rd at) l ts x p y r) where
     -- the room for b and for the rule's own operators
-    pub first-room : Room (r .pen) (37 * suc (records (h .operands .b .q)))
+    pub first-room : PenRoom (r .pen) (37 * suc (records (h .operands .b .q)))
     first-room =
         let o = h .operands in
         room-after (o .a .q) _ _ _ (ruled-own m (o .a)) _ _ (h .room) (omega (arith, more (o .a .q) (o .b .q)))
@@ -85,27 +85,27 @@ module _ (f : Query → Query → Query) (more : (a b : Query) → records (f a 
     second-asked = record { tree = second-tree; room = room-less _ first-room (omega arith) }
 
     pub two-room :
-        {l′ : ℕ} {ts′ z : List ℕ} {s : Output} → Makes (rd (r .next)) l′ ts′ y (r .pen) z s → Room (s .pen) 37
+        {l′ : ℕ} {ts′ z : List ℕ} {s : Output} → Makes (rd (r .next)) l′ ts′ y (r .pen) z s → PenRoom (s .pen) 37
     two-room g = room-after (h .operands .b .q) _ _ _ (ruled-own g second-tree) 37 _ first-room (omega arith)
 
     -- QF: after its first operators and the lifted variables
     module _
         (n t : ℕ) {z : List ℕ} {q : Pen} (g : Wrote (headF n t) y (r .pen) z q) where
-      pub head-room : Room q (32 + 37 * records (h .operands .b .q))
+      pub head-room : PenRoom q (32 + 37 * records (h .operands .b .q))
       unfolding headF
       head-room = wrote-room g _ _ first-room (omega arith)
 
       module _
           (fs : List Bool) {us cs : List ℕ} {k : ℕ} {w : List ℕ} {a : Lifted} (i : Lifts us k cs
           (flagged fs 8) z q w a) where
-        lifted-room : Room (a .pen) (16 + 37 * records (h .operands .b .q))
+        lifted-room : PenRoom (a .pen) (16 + 37 * records (h .operands .b .q))
         lifted-room = lifts-all-room fs i _ _ head-room (omega arith)
 
         pub body-asked : Asked (rd (r .next)) (a .pen)
         body-asked = record { tree = second-tree; room = room-less _ lifted-room (omega arith) }
 
         pub body-room :
-            {l′ : ℕ} {ts′ v : List ℕ} {s : Output} → Makes (rd (r .next)) l′ ts′ w (a .pen) v s → Room (s .pen) 16
+            {l′ : ℕ} {ts′ v : List ℕ} {s : Output} → Makes (rd (r .next)) l′ ts′ w (a .pen) v s → PenRoom (s .pen) 16
         body-room m = room-after (h .operands .b .q) _ _ _ (ruled-own m second-tree) 16 _ lifted-room (omega arith)
 
 -- A branch of QI
@@ -135,26 +135,26 @@ branch-own {ts = ts} m t = m .made t (tablesOf ts) (own ts)
 
 branch-room :
     {d : Parsed} {l : ℕ} {ts x y : List ℕ} {p : Pen} {r : Output} (m : MakesBranch d l ts x p y r) (t : Tree d)
-    (j k : ℕ) → Room p k → 16 + 37 * records (t .q) + j ≤ k → Room (r .pen) j
+    (j k : ℕ) → PenRoom p k → 16 + 37 * records (t .q) + j ≤ k → PenRoom (r .pen) j
 branch-room {l = l} {ts = ts} {p = p} m t j k h b =
     wrote-room (branch-own m t .wrote) j k h (omega (arith, branch-bound (t .q) (p .operators) l (tablesOf ts)))
 
 module _ (rd : ℕ → Parsed) (at : ℕ) (p : Pen) (h : AskedThree (QI 0) rd at p) where
   -- the room for all of QI
   all-room :
-      Room p (37 * suc (records (h .operands .c .q) + records (h .operands .a .q) + records (h .operands .b .q)))
+      PenRoom p (37 * suc (records (h .operands .c .q) + records (h .operands .a .q) + records (h .operands .b .q)))
   all-room = h .room
 
   pub condition-asked : Asked (rd at) p
   condition-asked = record { tree = h .operands .c; room = room-less _ all-room (omega arith) }
 
   module _ {l : ℕ} {ts x y : List ℕ} {r : Output} (m : Makes (rd at) l ts x p y r) where
-    pub condition-room : Room (r .pen) (37 * suc (records (h .operands .a .q) + records (h .operands .b .q)))
+    pub condition-room : PenRoom (r .pen) (37 * suc (records (h .operands .a .q) + records (h .operands .b .q)))
     condition-room =
         room-after (h .operands .c .q) _ _ _ (ruled-own m (h .operands .c)) _ _ all-room (omega arith)
 
     module _ (n k t : ℕ) {z : List ℕ} {q : Pen} (g : Wrote (headI n k t) y (r .pen) z q) where
-      loops-room : Room q (33 + 37 * (records (h .operands .a .q) + records (h .operands .b .q)))
+      loops-room : PenRoom q (33 + 37 * (records (h .operands .a .q) + records (h .operands .b .q)))
       unfolding headI
       loops-room = wrote-room g _ _ condition-room (omega arith)
 
@@ -165,7 +165,7 @@ module _ (rd : ℕ → Parsed) (at : ℕ) (p : Pen) (h : AskedThree (QI 0) rd at
       then-asked = record { tree = then-tree; room = room-less _ loops-room (omega arith) }
 
       module _ {l′ : ℕ} {ts′ w : List ℕ} {s : Output} (i : MakesBranch (rd (r .next)) l′ ts′ z q w s) where
-        then-room : Room (s .pen) (17 + 37 * records (h .operands .b .q))
+        then-room : PenRoom (s .pen) (17 + 37 * records (h .operands .b .q))
         then-room = branch-room i then-tree _ _ loops-room (omega arith)
 
         abbrev else-tree : Tree (rd (s .next))
@@ -175,5 +175,6 @@ module _ (rd : ℕ → Parsed) (at : ℕ) (p : Pen) (h : AskedThree (QI 0) rd at
         else-asked = record { tree = else-tree; room = room-less _ then-room (omega arith) }
 
         pub choice-room :
-            {l″ : ℕ} {ts″ v : List ℕ} {u : Output} → MakesBranch (rd (s .next)) l″ ts″ w (s .pen) v u → Room (u .pen) 1
+            {l″ : ℕ} {ts″ v : List ℕ} {u : Output} → MakesBranch (rd (s .next)) l″ ts″ w (s .pen) v u
+            → PenRoom (u .pen) 1
         choice-room j = branch-room j else-tree 1 _ then-room (omega arith)

@@ -16,7 +16,7 @@ use Rattle.query_walks.specs.Parse.{Parsed, lone, pair, triple}
 use Rattle.query_walks.proofs.Parsing.{lone-gives, pair-gives, triple-gives}
 use Rattle.adding.specs.declared.Pen.{Pen}
 use Rattle.adding.specs.declared.Output.{Output}
-use Rattle.adding.specs.Ruled.{Room, Ruled}
+use Rattle.adding.specs.Ruled.{PenRoom, Ruled}
 use Rattle.translating.specs.Translating.{Tree, Two, Three, Asked, AskedOne, AskedTwo, AskedThree, Translates}
 use Rattle.translating.specs.Translating.{Makes}
 use Rattle.translating.specs.Translating.{MakesOne, MakesTwo, MakesThree}
@@ -28,7 +28,7 @@ ruled-is {next = next} {last = last} e d g =
     record { wrote = rw e at (g .wrote); table = g .table ∙ ap (λ (k : Made). k .result) e; after = g .after ∙ d }
 
 -- the same tree, and the same offset after it
-same-room : {p : Pen} (q k : Query) → records q ≡ records k → Room p (37 * records k) → Room p (37 * records q)
+same-room : {p : Pen} (q k : Query) → records q ≡ records k → PenRoom p (37 * records k) → PenRoom p (37 * records q)
 same-room q k e h = record { few = omega (arith, e, h .few); short = h .short }
 
 -- Records without operands
@@ -37,7 +37,7 @@ module _ (q : Query) (next : ℕ) {d : Parsed} (e : d ≡ gives (q, next)) where
   leaf-is : (t : Tree d) → _≡_ {A = Query × ℕ} (q, next) (t .q, t .end)
   leaf-is t = gives-same (sym e ∙ t .given)
 
-  pub leaf-room : records q ≡ 1 → {p : Pen} → Asked d p → Room p 37
+  pub leaf-room : records q ≡ 1 → {p : Pen} → Asked d p → PenRoom p 37
   leaf-room one h =
       let same : records q ≡ records (h .tree .q) = ap (λ (z : Query × ℕ). records (z .0)) (leaf-is (h .tree)) in
       record { few = omega (arith, h .room .few, same, one); short = h .room .short }

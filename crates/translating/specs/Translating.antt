@@ -20,8 +20,8 @@ use Rattle.theorems.specs.Closed.{records}
 use Rattle.query_walks.specs.Parse.{Parsed}
 use Rattle.adding.specs.declared.Pen.{Pen}
 use Rattle.adding.specs.declared.Output.{Output}
-use Rattle.adding.specs.Ruled.{Room, Ruled}
-use Rattle.scopes.specs.Lifts.{Holds}
+use Rattle.adding.specs.Ruled.{PenRoom, Ruled}
+use Rattle.scopes.specs.Lifts.{HoldsTables}
 
 pub record Tree (d : Parsed) : Type 0 where
   pub q : Query
@@ -39,22 +39,22 @@ pub record Three (rd : ℕ → Parsed) (at : ℕ) : Type 0 where
 
 pub record Asked (d : Parsed) (p : Pen) : Type 0 where
   pub tree : Tree d
-  pub room : Room p (37 * records (tree .q))
+  pub room : PenRoom p (37 * records (tree .q))
 
 pub record AskedOne (f : Query → Query) (d : Parsed) (p : Pen) : Type 0 where
   pub operand : Tree d
-  pub room : Room p (37 * records (f (operand .q)))
+  pub room : PenRoom p (37 * records (f (operand .q)))
 
 pub record AskedTwo (f : Query → Query → Query) (rd : ℕ → Parsed) (at : ℕ) (p : Pen) : Type 0 where
   pub operands : Two rd at
-  pub room : Room p (37 * records (f (operands .a .q) (operands .b .q)))
+  pub room : PenRoom p (37 * records (f (operands .a .q) (operands .b .q)))
 
 pub record AskedThree (f : Query → Query → Query → Query) (rd : ℕ → Parsed) (at : ℕ) (p : Pen) : Type 0 where
   pub operands : Three rd at
-  pub room : Room p (37 * records (f (operands .c .q) (operands .a .q) (operands .b .q)))
+  pub room : PenRoom p (37 * records (f (operands .c .q) (operands .a .q) (operands .b .q)))
 
 abbrev pub Translates : Query → (next l : ℕ) → (ts x : List ℕ) → Pen → (y : List ℕ) → Output → Type 0
-Translates q next l ts x p y r = (e : Tables) → Holds ts e → Ruled (tr q (p .operators) l e) next x p y r
+Translates q next l ts x p y r = (e : Tables) → HoldsTables ts e → Ruled (tr q (p .operators) l e) next x p y r
 
 pub record Makes (d : Parsed) (l : ℕ) (ts x : List ℕ) (p : Pen) (y : List ℕ) (r : Output) : Type 0 where
   pub made : (t : Tree d) → Translates (t .q) (t .end) l ts x p y r
@@ -81,8 +81,8 @@ branched q n l e =
 
 pub record AskedBranch (d : Parsed) (p : Pen) : Type 0 where
   pub tree : Tree d
-  pub room : Room p (16 + 37 * records (tree .q))
+  pub room : PenRoom p (16 + 37 * records (tree .q))
 
 pub record MakesBranch (d : Parsed) (l : ℕ) (ts x : List ℕ) (p : Pen) (y : List ℕ) (r : Output) : Type 0 where
   pub made :
-      (t : Tree d) (e : Tables) → Holds ts e → Ruled (branched (t .q) (p .operators) l e) (t .end) x p y r
+      (t : Tree d) (e : Tables) → HoldsTables ts e → Ruled (branched (t .q) (p .operators) l e) (t .end) x p y r

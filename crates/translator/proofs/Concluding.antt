@@ -32,11 +32,11 @@ use Rattle.query_walks.proofs.Accepting.{query-accepted}
 use Rattle.pen.proofs.Penned.{cleared-from-0, cleared-penned}
 use Rattle.adding.specs.declared.Pen.{Pen}
 use Rattle.adding.specs.declared.Output.{Output}
-use Rattle.adding.specs.Ruled.{Room, Wrote}
-use Rattle.scopes.specs.Lifts.{Holds}
+use Rattle.adding.specs.Ruled.{PenRoom, Wrote}
+use Rattle.scopes.specs.Lifts.{HoldsTables}
 use Rattle.adding.proofs.Adding.{wrote-then, wrote-length}
 use Rattle.translating.specs.Translating.{Tree, Asked, Makes}
-use Rattle.translator.specs.Answers.{Whole, Concludes, answered}
+use Rattle.translator.specs.Answers.{WholeQuery, Concludes, answered}
 use Rattle.translator.specs.declared.Translated.{Translated}
 use Rattle.translating.proofs.Rooms.{room-less, room-after, ruled-own}
 use Rattle.translating.proofs.Splitting.{ruled-is}
@@ -46,8 +46,8 @@ use Rattle.translating.proofs.Composing.{wrote-is}
 abbrev pub start : Pen
 start = record { operators = 0; at = 0 }
 
-module _ (bs x y : List ℕ) (p : Pen) (h : Whole bs) (first : Wrote (RT ∷ []) x start y p) where
-  room : Room p (37 * records (h .q) + 2)
+module _ (bs x y : List ℕ) (p : Pen) (h : WholeQuery bs) (first : Wrote (RT ∷ []) x start y p) where
+  room : PenRoom p (37 * records (h .q) + 2)
   room = record { few = omega (arith, first .count, h .few); short = omega (arith, first .short) }
 
   abbrev pub whole-tree : Tree (parse 32 bs 0)
@@ -56,11 +56,11 @@ module _ (bs x y : List ℕ) (p : Pen) (h : Whole bs) (first : Wrote (RT ∷ [])
   pub whole-asked : Asked (parse 32 bs 0) p
   whole-asked = record { tree = whole-tree; room = room-less _ room (omega arith) }
 
-  pub whole-room : {l : ℕ} {ts z : List ℕ} {r : Output} → Makes (parse 32 bs 0) l ts y p z r → Room (r .pen) 2
+  pub whole-room : {l : ℕ} {ts z : List ℕ} {r : Output} → Makes (parse 32 bs 0) l ts y p z r → PenRoom (r .pen) 2
   whole-room m = room-after (h .q) _ _ _ (ruled-own m whole-tree) 2 _ room (omega arith)
 
 -- every variable's table is 0
-pub zeros-hold : Holds (replicate 8 0) (λ v. 0)
+pub zeros-hold : HoldsTables (replicate 8 0) (λ v. 0)
 zeros-hold v h = getD-replicate 8 v 0 0 h
 
 pub whole-wrote :
@@ -168,7 +168,7 @@ pub call-read :
 unfolding translateCall reading
 call-read bs lent r e = rw e
 
-pub call-whole : (bs : List ℕ) (r : Read) → queryRead bs ≡ reads r → Whole bs
+pub call-whole : (bs : List ℕ) (r : Read) → queryRead bs ≡ reads r → WholeQuery bs
 call-whole bs r e =
     let a = query-accepted bs r e in
     record { q = r .tree; read = a .parses; few = a .few }

@@ -1,7 +1,7 @@
 -- The translator's answer (document 01, 'The eight refusals').
 --     answered r          the answer as document 01 numbers it
 --     Hands c r           a refusal of the query check is handed up
---     Whole bs            the bytes are one whole query of at most 128 records
+--     WholeQuery bs       the bytes are one whole query of at most 128 records
 --     Concludes bs x y r  the answer and the lent bytes that the query's plan decides
 use Prim.Native.Nat.{ℕ, _≤_}
 use mathlib.Core.Path.{_≡_}
@@ -27,7 +27,7 @@ answered Longer = refused 8 0
 abbrev pub Hands : Checked → Translated → Type 0
 Hands c r = (k p : ℕ) → Queries.answered c ≡ refused k p → answered r ≡ refused k p
 
-pub record Whole (bs : List ℕ) : Type 0 where
+pub record WholeQuery (bs : List ℕ) : Type 0 where
   pub q : Query
   pub read : parse 32 bs 0 ≡ gives (q, length bs)
   pub few : records q ≤ 128

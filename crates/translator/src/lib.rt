@@ -7,7 +7,7 @@ use queries::Checked;
 ghost use mathlib.Core.Path.{_≡_};
 ghost use lib.ListN.{length};
 ghost use Rattle.meaning.specs.Calls.{translateCall};
-ghost use Rattle.translator.specs.Answers.{answered, Hands, Whole, Concludes};
+ghost use Rattle.translator.specs.Answers.{answered, Hands, WholeQuery, Concludes};
 
 // The answer of the translator, with the place of a refusal.
 pub enum Translated {
@@ -34,7 +34,7 @@ fn handed_up(checked: Checked) -> Translated
 // The plan of an accepted query, zeros after it; 2 at 0 over 512 operators, then 8 at 0 where it is longer than the
 // lent bytes.
 fn whole(query: &[u8], plan: &mut [u8]) -> Translated
-    requires { ⌜ Whole (now query) ⌝ }
+    requires { ⌜ WholeQuery (now query) ⌝ }
     ensures { λ r. ⌜ Concludes (now (query .entry)) (now (plan .entry)) (now (plan .exit)) r ⌝ }
 {
     let start = Pen {

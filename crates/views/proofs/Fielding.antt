@@ -13,8 +13,8 @@ use lib.Dec.{eqb}
 use lib.IntN.{ℤ}
 use Rattle.cells.specs.Bytes.{byteAt, word, int8}
 use Rattle.meaning.specs.Plan.{markRA, markRU, markRD, markRJ, markRX}
-use Rattle.views.specs.declared.records.Field.{Field}
-use Rattle.views.specs.declared.records.Field.the-variants as Field
+use Rattle.views.specs.declared.records.ShownField.{ShownField}
+use Rattle.views.specs.declared.records.ShownField.the-variants as ShownField
 use Rattle.views.specs.Records.{sizeOf, fieldOf, fieldAt}
 
 -- Sizes
@@ -93,27 +93,27 @@ module _ (bs : List ℕ) (at from end m n : ℕ) (d : m ≡ word bs at 2) (e : n
   pub some : 1 ≤ n
   some = omega (arith, size-some m (from - at))
 
-  pub field-none : end - from < n → Field.Nothing ≡ fieldAt bs at from end
+  pub field-none : end - from < n → ShownField.Nothing ≡ fieldAt bs at from end
   unfolding fieldAt
   field-none h = rw (size-is, lt-ltb (end - from) n h)
 
-  pub field-is : n ≤ end - from → (f : Field) → f ≡ fieldOf bs from n → f ≡ fieldAt bs at from end
+  pub field-is : n ≤ end - from → (f : ShownField) → f ≡ fieldOf bs from n → f ≡ fieldAt bs at from end
   unfolding fieldAt
   field-is h f q = q ∙ rw (size-is, le-ltb (end - from) n h)
 
 module _ (bs : List ℕ) (from n : ℕ) where
-  pub cell-field : (z : ℤ) → n ≡ 8 → z ≡ int8 bs from → Field.Cell z (from + n) ≡ fieldOf bs from n
+  pub cell-field : (z : ℤ) → n ≡ 8 → z ≡ int8 bs from → ShownField.Cell z (from + n) ≡ fieldOf bs from n
   unfolding fieldOf
-  cell-field z k q = ap (λ (y : ℤ). Field.Cell y (from + n)) q ∙ rw (eq-eqb n 8 k)
+  cell-field z k q = ap (λ (y : ℤ). ShownField.Cell y (from + n)) q ∙ rw (eq-eqb n 8 k)
 
-  pub two-field : (v : ℕ) → n ≡ 2 → v ≡ word bs from 2 → Field.Number v (from + n) ≡ fieldOf bs from n
+  pub two-field : (v : ℕ) → n ≡ 2 → v ≡ word bs from 2 → ShownField.Number v (from + n) ≡ fieldOf bs from n
   unfolding fieldOf
   two-field v k q =
       let other : n ≡ 8 → ⊥ = λ l. omega arith in
-      ap (λ (y : ℕ). Field.Number y (from + n)) q ∙ rw (ne-eqb n 8 other, eq-eqb n 2 k)
+      ap (λ (y : ℕ). ShownField.Number y (from + n)) q ∙ rw (ne-eqb n 8 other, eq-eqb n 2 k)
 
   pub one-field : (v : ℕ) → (n ≡ 8 → ⊥) → (n ≡ 2 → ⊥) → v ≡ byteAt bs from
-      → Field.Number v (from + n) ≡ fieldOf bs from n
+      → ShownField.Number v (from + n) ≡ fieldOf bs from n
   unfolding fieldOf
   one-field v a b q =
-      ap (λ (y : ℕ). Field.Number y (from + n)) q ∙ rw (ne-eqb n 8 a, ne-eqb n 2 b)
+      ap (λ (y : ℕ). ShownField.Number y (from + n)) q ∙ rw (ne-eqb n 8 a, ne-eqb n 2 b)

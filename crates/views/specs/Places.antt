@@ -4,7 +4,7 @@
 --     placed s e room          the cells from s up to e, where they are in the room
 --     placeOf s r e w room     where the table of width w stands, after a run with start s, r rows and e cells
 --     placeIn a w room         where the table of width w stands, after the answer a to that plan
---     Standing room p          the place is in the room
+--     PlaceStands room p       the place is in the room
 use Prim.Native.Nat.{ℕ, _+_, _-_, _*_, _≤_}
 use mathlib.Core.List.{List, [], _∷_, _++_}
 use mathlib.Core.Bool.{cond}
@@ -34,6 +34,6 @@ unfoldable pub placeIn : Answer → ℕ → ℕ → Place
 placeIn (gives ns) w room = placeOf (getD ns 0 0) (getD ns 1 0) (getD ns 2 0) w room
 placeIn (refused n p) w room = Nothing
 
-unfoldable pub Standing : ℕ → Place → Type 0
-Standing room (Cells s e) = (s ≤ e) × (e ≤ room)
-Standing room Nothing = Unit {0}
+unfoldable pub PlaceStands : ℕ → Place → Type 0
+PlaceStands room (Cells s e) = (s ≤ e) × (e ≤ room)
+PlaceStands room Nothing = Unit {0}

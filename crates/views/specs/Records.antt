@@ -12,8 +12,8 @@ use Rattle.cells.specs.Bytes.{byteAt, word, int8}
 use Rattle.meaning.specs.Plan.{markRA, markRU, markRD, markRJ, markRX}
 use Rattle.views.specs.declared.records.Seen.{Seen}
 use Rattle.views.specs.declared.records.Seen.the-variants as Seen
-use Rattle.views.specs.declared.records.Field.{Field}
-use Rattle.views.specs.declared.records.Field.the-variants as Field
+use Rattle.views.specs.declared.records.ShownField.{ShownField}
+use Rattle.views.specs.declared.records.ShownField.the-variants as ShownField
 
 unfoldable pub Within : ℕ → ℕ → Seen → Type 0
 Within l at (Seen.Suited next w) = (at + 2 ≤ l) × (next ≤ l) × (1 ≤ w) × (w ≤ 6)
@@ -30,17 +30,17 @@ sizeOf mark after =
     (cond (eqb mark markRJ) (cond (eqb after 5) 2 1)
     (cond (eqb mark markRX) (cond (eqb after 6) 2 1) 1)))))
 
-unfoldable pub fieldOf : List ℕ → (from n : ℕ) → Field
+unfoldable pub fieldOf : List ℕ → (from n : ℕ) → ShownField
 fieldOf bs from n =
-    cond (eqb n 8) (Field.Cell (int8 bs from) (from + n))
-    (cond (eqb n 2) (Field.Number (word bs from 2) (from + n)) (Field.Number (byteAt bs from) (from + n)))
+    cond (eqb n 8) (ShownField.Cell (int8 bs from) (from + n))
+    (cond (eqb n 2) (ShownField.Number (word bs from 2) (from + n)) (ShownField.Number (byteAt bs from) (from + n)))
 
-unfoldable pub fieldAt : List ℕ → (at from end : ℕ) → Field
+unfoldable pub fieldAt : List ℕ → (at from end : ℕ) → ShownField
 fieldAt bs at from end =
     let n = sizeOf (word bs at 2) (from - at) in
-    cond (ltb (end - from) n) Field.Nothing (fieldOf bs from n)
+    cond (ltb (end - from) n) ShownField.Nothing (fieldOf bs from n)
 
-unfoldable pub Ahead : (from end : ℕ) → Field → Type 0
-Ahead from end (Field.Number k next) = (from < next) × (next ≤ end)
-Ahead from end (Field.Cell z next) = (from < next) × (next ≤ end)
-Ahead from end Field.Nothing = Unit {0}
+unfoldable pub Ahead : (from end : ℕ) → ShownField → Type 0
+Ahead from end (ShownField.Number k next) = (from < next) × (next ≤ end)
+Ahead from end (ShownField.Cell z next) = (from < next) × (next ≤ end)
+Ahead from end ShownField.Nothing = Unit {0}

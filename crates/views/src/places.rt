@@ -4,7 +4,7 @@ ghost use Prim.Native.Nat.{_+_, _≤_, _<_};
 ghost use lib.ListN.{length};
 ghost use Rattle.lines.specs.Placed.{Put};
 ghost use Rattle.runner.specs.Answers.{answered};
-ghost use Rattle.views.specs.Places.{askedPlan, placeIn, placed, Standing};
+ghost use Rattle.views.specs.Places.{askedPlan, placeIn, placed, PlaceStands};
 use runner::Ran;
 
 // The cells of a table, from `start` up to `end`; or that there is no such table.
@@ -30,7 +30,7 @@ pub fn ask(plan: &[u8], end: usize, n: usize, width: usize, asked: &mut [u8]) ->
 // The cells from `start` up to `end`, where all up to there are in the room.
 fn within(start: usize, end: usize, room: usize) -> Place
     requires { ⌜ start ≤ end ⌝ }
-    ensures { λ r. ⌜ (r ≡ placed start end room) × Standing room r ⌝ }
+    ensures { λ r. ⌜ (r ≡ placed start end room) × PlaceStands room r ⌝ }
 {
     if room < end {
         return Place::Nothing;
@@ -43,7 +43,7 @@ fn within(start: usize, end: usize, room: usize) -> Place
 // end to end, so the tests that find no place for it find none that is missing.
 pub fn place_of(ran: Ran, width: usize, room: usize) -> Place
     requires { ⌜ (width ≤ 6) × (room ≤ 65536) ⌝ }
-    ensures { λ r. ⌜ (r ≡ placeIn (answered ran) width room) × Standing room r ⌝ }
+    ensures { λ r. ⌜ (r ≡ placeIn (answered ran) width room) × PlaceStands room r ⌝ }
 {
     let Ran::Tables {
         start,

@@ -30,7 +30,7 @@ pub enum Seen {
 }
 
 // A field: a number or a cell, and the offset after it; or that the record has no more.
-pub enum Field {
+pub enum ShownField {
     Number(usize, usize),
     Cell(i64, usize),
     Nothing,
@@ -77,18 +77,18 @@ fn size(mark: usize, after: usize) -> usize
 }
 
 // The field at an offset, of the record that stands at `at` and ends at `end`.
-pub fn next_field(plan: &[u8], at: usize, from: usize, end: usize) -> Field
+pub fn next_field(plan: &[u8], at: usize, from: usize, end: usize) -> ShownField
     requires { ⌜ (at + 2 ≤ from) × (from < end) × (end ≤ length (now plan)) ⌝ }
     ensures { λ r. ⌜ (r ≡ fieldAt (now (plan .entry)) at from end) × Ahead from end r ⌝ }
 {
     let n = size(word2(plan, at), from - at);
     if end - from < n {
-        return Field::Nothing;
+        return ShownField::Nothing;
     }
     let next = from + n;
     match n {
-        8 => Field::Cell(int8(plan, from), next),
-        2 => Field::Number(word2(plan, from), next),
-        _ => Field::Number(byte(plan, from), next),
+        8 => ShownField::Cell(int8(plan, from), next),
+        2 => ShownField::Number(word2(plan, from), next),
+        _ => ShownField::Number(byte(plan, from), next),
     }
 }

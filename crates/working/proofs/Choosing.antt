@@ -27,7 +27,7 @@ use Rattle.stack.specs.Arms.{raised}
 use Rattle.stack.proofs.Leaving.{leaves-raised}
 use Rattle.stack.proofs.Stood.{the-type}
 use Rattle.working.specs.declared.Scope.{Scope}
-use Rattle.working.specs.Scopes.{Scoped, Holds}
+use Rattle.working.specs.Scopes.{Scoped, HoldsEnv}
 use Rattle.working.specs.Evaluating.{endingAt, Works, Branches}
 use Rattle.working.proofs.Scoping.{holds-kept}
 use Rattle.working.proofs.Working.{works-leaves, works-stopped}
@@ -77,7 +77,7 @@ module _ (w : World) (rd : ℕ → Parsed) (place at top room : ℕ) (s : Scope)
     g = subst (λ (m : Stood). Works w (rd at) top room s before mid m) is worked
 
     decides :
-        (e : Env) → Holds before s e → (x y z : Query × ℕ) → rd at ≡ gives x →
+        (e : Env) → HoldsEnv before s e → (x y z : Query × ℕ) → rd at ≡ gives x →
         judged k e (y .0) (z .0) (w .truth (row mid top l)) ≡ evaluate w (room - top) e (QI place (x .0) (y .0) (z .0))
     unfolding evaluate stood stand work raised
     decides e h x y z p =
@@ -127,7 +127,7 @@ module _ (w : World) (rd : ℕ → Parsed) (place at top room : ℕ) (s : Scope)
           ))
         where
           stands :
-              (b : Bool) → Works w (rd (cond b n past)) top room s mid after m → (e : Env) → Holds mid s e →
+              (b : Bool) → Works w (rd (cond b n past)) top room s mid after m → (e : Env) → HoldsEnv mid s e →
               (y o : Query × ℕ) → rd n ≡ gives y → rd past ≡ gives o →
               stood after top m ≡ cond b (evaluate w (room - top) e (y .0)) (evaluate w (room - top) e (o .0))
           stands true q e h y o i j = q .means e h y i .stands

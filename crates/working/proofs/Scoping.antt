@@ -19,7 +19,7 @@ use Rattle.lent.proofs.Moves.{row-kept}
 use Rattle.working.specs.declared.Scope.{Scope}
 use Rattle.working.specs.declared.Binding.{Binding}
 use Rattle.working.specs.declared.Binding.the-variants.{Nothing, Variable}
-use Rattle.working.specs.Scopes.{Scoped, held, Holds, Bindable, scoping, binding, unbound}
+use Rattle.working.specs.Scopes.{Scoped, held, HoldsEnv, Bindable, scoping, binding, unbound}
 
 pub scoped-more : (top higher : ℕ) (s : Scope) → top ≤ higher → Scoped top s → Scoped higher s
 scoped-more top higher s h g =
@@ -45,13 +45,13 @@ scoped-bound top a l s (Variable v) k h g =
 
 pub holds-kept :
     (top : ℕ) (s : Scope) (e : Env) (before after : List ℤ) → Scoped top s → take top after ≡ take top before →
-    Holds before s e → Holds after s e
+    HoldsEnv before s e → HoldsEnv after s e
 unfolding held
 holds-kept top s e before after g k h v l = row-kept before after top _ _ (g .below v l) k ∙ h v l
 
 pub holds-bound :
     (top a l : ℕ) (s : Scope) (b : Binding) (e : Env) (cells xs : List ℤ) → Scoped top s → Bindable b →
-    row cells a l ≡ xs → Holds cells s e → Holds cells (scoping s b a l) (binding b xs e)
+    row cells a l ≡ xs → HoldsEnv cells s e → HoldsEnv cells (scoping s b a l) (binding b xs e)
 unfolding scoping binding held bind
 holds-bound top a l s Nothing e cells xs g k r h u f = h u f
 holds-bound top a l s (Variable v) e cells xs g k r h u f = go (ℕ-discrete u v)
@@ -72,6 +72,6 @@ scoped-nothing =
       below = λ v l. rw (getD-replicate {A = ℕ} 8 v 0 0 l) (omega arith);
     }
 
-pub holds-nothing : (cells : List ℤ) → Holds cells unbound (λ v. [])
+pub holds-nothing : (cells : List ℤ) → HoldsEnv cells unbound (λ v. [])
 unfolding held row
 holds-nothing cells v l = rw (getD-replicate {A = ℕ} 8 v 0 0 l) refl

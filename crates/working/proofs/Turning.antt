@@ -40,7 +40,7 @@ use Rattle.lent.proofs.Moves.{row-kept}
 use Rattle.stack.proofs.Stood.{the-type}
 use Rattle.working.specs.declared.Scope.{Scope}
 use Rattle.working.specs.declared.Binding.the-variants.{Variable}
-use Rattle.working.specs.Scopes.{Scoped, Holds, scoping, binding}
+use Rattle.working.specs.Scopes.{Scoped, HoldsEnv, scoping, binding}
 use Rattle.working.specs.Evaluating.{Works, turn, Turns}
 use Rattle.working.proofs.Scoping.{scoped-more, scoped-bound, holds-kept, holds-bound}
 use Rattle.working.proofs.Pairing.{take-lower}
@@ -61,7 +61,7 @@ module _ (w : World) (t : Parsed) (v top room n count : ℕ) (s : Scope) (before
     pub long : length cells ≡ length before
     pub kept : take (top + n) cells ≡ take (top + n) before
     pub means :
-        (e : Env) → Holds before s e → (x : Query × ℕ) → t ≡ gives x →
+        (e : Env) → HoldsEnv before s e → (x : Query × ℕ) → t ≡ gives x →
         loop (turn w e v (x .0)) (room - top) n most (row cells (top + n) got) (row before (top + i) (n - i))
         ≡ loop (turn w e v (x .0)) (room - top) n count [] (row before top n)
 
@@ -99,7 +99,7 @@ module _ (w : World) (t : Parsed) (v top room n count : ℕ) (s : Scope) (before
         where
           -- the turn, and those behind it
           turned :
-              (e : Env) → Holds before s e → (x : Query × ℕ) → t ≡ gives x →
+              (e : Env) → HoldsEnv before s e → (x : Query × ℕ) → t ≡ gives x →
               work (stood after (top + n + got) m)
               (onward (turn w e v (x .0)) most (row cells (top + n) got) (row before (top + (i + 1)) (n - (i + 1))))
               ≡ loop (turn w e v (x .0)) (room - top) n count [] (row before top n)

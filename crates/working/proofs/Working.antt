@@ -41,7 +41,7 @@ use Rattle.stack.proofs.Stood.{the-type}
 use Rattle.working.specs.declared.Scope.{Scope}
 use Rattle.working.specs.declared.Binding.{Binding}
 use Rattle.working.specs.declared.Binding.the-variants.{Nothing, Variable}
-use Rattle.working.specs.Scopes.{Holds, binding}
+use Rattle.working.specs.Scopes.{HoldsEnv, binding}
 use Rattle.working.specs.Evaluating.{Works, behind, both, Pairs}
 
 pub fit-wider : (top room wider : ℕ) (r : Stood) → room ≤ wider → Fit top room r → Fit top wider r
@@ -82,7 +82,7 @@ module _ (w : World) (t : Parsed) (top room : ℕ) (s : Scope) (before after : L
   pub works-leaves :
       (mid : List ℤ) (r : Stood) (o : Work Standing) (E : ℕ → Type 0) → Leaves top room o E mid after r →
       take top mid ≡ take top before →
-      ((e : Env) → Holds before s e → (x : Query × ℕ) → t ≡ gives x →
+      ((e : Env) → HoldsEnv before s e → (x : Query × ℕ) → t ≡ gives x →
       (o ≡ evaluate w (room - top) e (x .0)) × E (x .1)) →
       Works w t top room s before after r
   works-leaves mid r o E l k h =
@@ -96,7 +96,7 @@ module _ (w : World) (t : Parsed) (top room : ℕ) (s : Scope) (before after : L
 
   pub works-leaf :
       (r : Stood) (q : Query) (n : ℕ) (o : Work Standing) → t ≡ gives (q, n) → Leaves top room o (At n) before after r →
-      ((e : Env) → Holds before s e → o ≡ evaluate w (room - top) e q) → Works w t top room s before after r
+      ((e : Env) → HoldsEnv before s e → o ≡ evaluate w (room - top) e q) → Works w t top room s before after r
   works-leaf r q n o p l h =
       works-leaves before r o (At n) l refl
       (λ e g x c.

@@ -33,7 +33,7 @@ use Rattle.stack.specs.Arms.{pairing}
 use Rattle.stack.specs.Arms as Arms
 use Rattle.working.specs.declared.Scope.{Scope}
 use Rattle.working.specs.declared.Binding.{Binding}
-use Rattle.working.specs.Scopes.{Holds, binding}
+use Rattle.working.specs.Scopes.{HoldsEnv, binding}
 
 -- the other branch of a choice is passed over
 unfoldable pub endingAt : ℕ → Stood → Stood
@@ -53,7 +53,7 @@ pub record Works (w : World) (t : Parsed) (top room : ℕ) (s : Scope) (before a
   pub kept : take top after ≡ take top before
   pub fit : Fit top room r
   pub means :
-      (e : Env) → Holds before s e → (x : Query × ℕ) → t ≡ gives x →
+      (e : Env) → HoldsEnv before s e → (x : Query × ℕ) → t ≡ gives x →
       Is (evaluate w (room - top) e (x .0)) (x .1) top after r
 
 pub record Branches
@@ -75,7 +75,7 @@ pub record Pairs
   pub kept : take top after ≡ take top before
   pub fit : FitPair top room p
   pub means :
-      (e : Env) → Holds before s e → (x y : Query × ℕ) → rd at ≡ gives x → rd (x .1) ≡ gives y →
+      (e : Env) → HoldsEnv before s e → (x y : Query × ℕ) → rd at ≡ gives x → rd (x .1) ≡ gives y →
       IsPair (both w (room - top) e b (x .0) (y .0)) (y .1) top after p
 
 -- what a turn of a `for` works out, for one item of its variable
@@ -89,5 +89,5 @@ pub record Turns
   pub fit : FitPair top room p
   pub ends : EndsPair p next
   pub means :
-      (e : Env) → Holds before s e → (x : Query × ℕ) → t ≡ gives x →
+      (e : Env) → HoldsEnv before s e → (x : Query × ℕ) → t ≡ gives x →
       Arms.kept (paired after top p) ≡ loop (turn w e v (x .0)) (room - top) n count [] (row before top n)

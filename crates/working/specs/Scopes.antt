@@ -1,7 +1,7 @@
 -- Where the variables' items stand (document 01, 'Query records': what a variable holds).
 --     Scoped top s         each of the eight variables' items stand below top
 --     held cells s v       the items of variable v
---     Holds cells s e      scope s, read from the cells, is the store e
+--     HoldsEnv cells s e   scope s, read from the cells, is the store e
 --     Bindable b           a binding's variable is 0 to 7
 --     scoping s b a l      scope s, with the l items from a on in the binding's variable
 --     binding b xs e       store e, with items xs in the binding's variable
@@ -25,8 +25,8 @@ pub record Scoped (top : ℕ) (s : Scope) : Type 0 where
 unfoldable pub held : List ℤ → Scope → ℕ → List ℤ
 held cells s v = row cells (getD (s .starts) v 0) (getD (s .lengths) v 0)
 
-abbrev pub Holds : List ℤ → Scope → Env → Type 0
-Holds cells s e = (v : ℕ) → v < 8 → held cells s v ≡ e v
+abbrev pub HoldsEnv : List ℤ → Scope → Env → Type 0
+HoldsEnv cells s e = (v : ℕ) → v < 8 → held cells s v ≡ e v
 
 abbrev pub Bindable : Binding → Type 0
 Bindable Nothing = Unit {0}

@@ -272,7 +272,7 @@ fn each_item(
         top,
         room,
     );
-    stack::keep(results, work, top)
+    stack::drop_first(results, work, top)
 }
 
 // A branch of an `if`: worked out where it is chosen, else passed over.
@@ -409,7 +409,7 @@ pub fn work_out(
         Record::Let(v) => {
             let held = Binding::Variable(v);
             let pair = two(query, doc, rows, scope, held, next, left, work, top, room);
-            stack::keep(pair, work, top)
+            stack::drop_first(pair, work, top)
         }
         Record::For(v) => each_item(query, doc, rows, scope, v, next, left, work, top, room),
         Record::If => choice(query, doc, rows, scope, at, next, left, work, top, room),

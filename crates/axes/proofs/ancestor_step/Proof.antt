@@ -6,7 +6,7 @@ use lib.Dec.{leb}
 use native.Mathlib.Omega.{arith}
 use Rattle.codes.specs.declared.Axis.the-variants.{Ancestor}
 use Rattle.meaning.specs.Catalogue.{catalogueOf}
-use Rattle.axes.specs.Steps.{Part}
+use Rattle.axes.specs.Steps.{AxisPart}
 use Rattle.axes.proofs.Marking.{part-none, part-down}
 use Rattle.axes.proofs.Ancestor.{Next, next-begin, next-more, next-flag}
 use Rattle.axes.proofs.ancestor_step.Statement.{statement}
@@ -16,7 +16,7 @@ abbrev Inv-loop : tie.InvT-loop
 Inv-loop doc rows test from to₀ next₀ left₀ to next left =
     (left ≤ rows)
     × Next rows from left (next .0)
-    × Part left rows doc rows Ancestor test from to₀ to
+    × AxisPart left rows doc rows Ancestor test from to₀ to
 
 abbrev μ-loop : tie.MeasureT-loop
 μ-loop doc rows test from to₀ next₀ left₀ to next left = left
@@ -35,8 +35,8 @@ sub-v c = omega arith
 end-of-requires : tie.Need-end-of-requires Inv-loop μ-loop
 end-of-requires c κs = (c .before .before .before .before .before .pre .known, omega arith)
 
-keep-requires : tie.Need-keep-requires Inv-loop μ-loop
-keep-requires c κs = omega arith
+takes-requires : tie.Need-takes-requires Inv-loop μ-loop
+takes-requires c κs = omega arith
 
 slice-write-to : tie.Need-slice-write-to Inv-loop μ-loop
 slice-write-to c = omega arith
@@ -52,8 +52,8 @@ loop-less c = omega arith
 
 loop-again : tie.Need-loop-again Inv-loop μ-loop
 loop-again c =
-    let keep = c .before .before in
-    let end = keep .before .before .before in
+    let takes = c .before .before in
+    let end = takes .before .before .before in
     let turn = end .before in
     let loop = turn .before .loop in
     let start = turn .before .before .before .before .before in
@@ -69,7 +69,7 @@ loop-again c =
           (next-more cat (args .rows) nested from (loop .left) v (loop .next .0) here there (loop .inv .1)),
       part-down (args .doc .now) (args .rows) Ancestor (args .test) from (args .to .now) (loop .to) v _ _
           (omega arith)
-          (keep .keep .ensures (args .rows))
+          (takes .takes .ensures (args .rows))
           (ap (λ e. leb (loop .next .0) e) (end .end-of .ensures .0)
           ∙ next-flag cat (args .rows) nested from (loop .left) v (loop .next .0) here there (loop .inv .1))
           (loop .left) here there (loop .inv .2),
@@ -92,7 +92,7 @@ ancestor-step-spec =
     loop-holds
     sub-v
     end-of-requires
-    keep-requires
+    takes-requires
     slice-write-to
     shared-slice-read-pick
     pick-requires

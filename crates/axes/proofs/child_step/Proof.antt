@@ -7,7 +7,7 @@ use lib.ListN.{getD}
 use native.Mathlib.Omega.{arith}
 use Rattle.codes.specs.declared.Axis.the-variants.{Child}
 use Rattle.meaning.specs.Catalogue.{catalogueOf}
-use Rattle.axes.specs.Steps.{Part}
+use Rattle.axes.specs.Steps.{AxisPart}
 use Rattle.axes.proofs.Marking.{part-none, part-up}
 use Rattle.axes.proofs.Child.{Opens, opens-begin, opens-more, opens-flag}
 use Rattle.axes.proofs.child_step.Statement.{statement}
@@ -17,7 +17,7 @@ abbrev Inv-loop : tie.InvT-loop
 Inv-loop doc rows test from to₀ opens₀ v₀ to opens v =
     (v ≤ rows)
     × Opens (catalogueOf doc rows .level) from v opens
-    × Part 0 v doc rows Child test from to₀ to
+    × AxisPart 0 v doc rows Child test from to₀ to
 
 abbrev μ-loop : tie.MeasureT-loop
 μ-loop doc rows test from to₀ opens₀ v₀ to opens v = rows - v
@@ -36,8 +36,8 @@ level-of-requires c κs = (c .before .before .before .before .before .pre .known
 array-read-on : tie.Need-array-read-on Inv-loop μ-loop
 array-read-on c = omega arith
 
-keep-requires : tie.Need-keep-requires Inv-loop μ-loop
-keep-requires c κs = omega arith
+takes-requires : tie.Need-takes-requires Inv-loop μ-loop
+takes-requires c κs = omega arith
 
 slice-write-to : tie.Need-slice-write-to Inv-loop μ-loop
 slice-write-to c = omega arith
@@ -59,8 +59,8 @@ loop-less c = omega arith
 
 loop-again : tie.Need-loop-again Inv-loop μ-loop
 loop-again c =
-    let keep = c .before in
-    let level = keep .before in
+    let takes = c .before in
+    let level = takes .before in
     let turn = level .before in
     let loop = turn .before .loop in
     let start = turn .before .before .before .before .before in
@@ -74,7 +74,7 @@ loop-again c =
           (opens-more cat (args .rows) nested from (loop .v) (loop .opens) here (loop .inv .1)),
       part-up (args .doc .now) (args .rows) Child (args .test) from (args .to .now) (loop .to) (loop .v) _ _
           (omega arith)
-          (keep .keep .ensures (args .rows))
+          (takes .takes .ensures (args .rows))
           (ap (λ l. getD (loop .opens) l false) (level .level-of .ensures .0)
           ∙ opens-flag cat (args .rows) nested from (loop .v) (loop .opens) here (loop .inv .1))
           (loop .inv .2),
@@ -97,7 +97,7 @@ child-step-spec =
     loop-holds
     level-of-requires
     array-read-on
-    keep-requires
+    takes-requires
     slice-write-to
     shared-slice-read-opens
     add-opens

@@ -4,7 +4,7 @@ use Prim.Native.Nat.{_≤_, _-_, zero-le}
 use mathlib.Core.Path.{_≡_}
 use native.Mathlib.Omega.{arith}
 use Rattle.meaning.specs.Catalogue.{catalogueOf}
-use Rattle.axes.specs.Steps.{Part, orSelf}
+use Rattle.axes.specs.Steps.{AxisPart, orSelf}
 use Rattle.axes.proofs.Marking.{part-none, part-up}
 use Rattle.axes.proofs.Descendant.{Until, until-begin, until-more, until-flag}
 use Rattle.axes.proofs.descendant_step.Statement.{statement}
@@ -14,7 +14,7 @@ abbrev Inv-loop : tie.InvT-loop
 Inv-loop doc rows test own from to₀ until₀ v₀ to until v =
     (v ≤ rows)
     × Until rows (catalogueOf doc rows .size) from v (until .0)
-    × Part 0 v doc rows (orSelf own) test from to₀ to
+    × AxisPart 0 v doc rows (orSelf own) test from to₀ to
 
 abbrev μ-loop : tie.MeasureT-loop
 μ-loop doc rows test own from to₀ until₀ v₀ to until v = rows - v
@@ -30,8 +30,8 @@ loop-holds c =
 shared-slice-read-marked : tie.Need-shared-slice-read-marked Inv-loop μ-loop
 shared-slice-read-marked c = omega arith
 
-keep-requires : tie.Need-keep-requires Inv-loop μ-loop
-keep-requires c κs = omega arith
+takes-requires : tie.Need-takes-requires Inv-loop μ-loop
+takes-requires c κs = omega arith
 
 slice-write-to : tie.Need-slice-write-to Inv-loop μ-loop
 slice-write-to c = omega arith
@@ -56,8 +56,8 @@ loop-less c = omega arith
 loop-again : tie.Need-loop-again Inv-loop μ-loop
 loop-again c =
     let end = c .before .before .before .before in
-    let keep = end .before in
-    let turn = keep .before .before .before in
+    let takes = end .before in
+    let turn = takes .before .before .before in
     let loop = turn .before .loop in
     let start = turn .before .before .before .before .before in
     let args = start .args in
@@ -71,7 +71,7 @@ loop-again c =
       rw (c .pick .ensures, end .end-of .ensures .0) more,
       part-up (args .doc .now) (args .rows) (orSelf (args .own)) (args .test) from (args .to .now) (loop .to)
           (loop .v) _ _ (omega arith)
-          (keep .keep .ensures (args .rows))
+          (takes .takes .ensures (args .rows))
           (until-flag cat (args .rows) nested from (loop .v) (loop .until .0) here
           (loop .inv .1) (args .own))
           (loop .inv .2),
@@ -93,7 +93,7 @@ descendant-step-spec =
     μ-loop
     loop-holds
     shared-slice-read-marked
-    keep-requires
+    takes-requires
     slice-write-to
     end-of-requires
     add-t17

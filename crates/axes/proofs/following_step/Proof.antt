@@ -5,7 +5,7 @@ use mathlib.Core.Path.{_≡_, sym}
 use native.Mathlib.Omega.{arith}
 use Rattle.codes.specs.declared.Axis.the-variants.{Following}
 use Rattle.meaning.specs.Catalogue.{catalogueOf}
-use Rattle.axes.specs.Steps.{Part}
+use Rattle.axes.specs.Steps.{AxisPart}
 use Rattle.axes.proofs.Marking.{part-none, part-up}
 use Rattle.axes.proofs.Following.{Least, least-begin, least-enter, least-more, least-flag}
 use Rattle.axes.proofs.following_step.Statement.{statement}
@@ -15,7 +15,7 @@ abbrev Inv-loop : tie.InvT-loop
 Inv-loop doc rows test from to₀ least₀ v₀ to least v =
     (v ≤ rows)
     × Least rows (catalogueOf doc rows .size) (catalogueOf doc rows .level) from v v (least .0)
-    × Part 0 v doc rows Following test from to₀ to
+    × AxisPart 0 v doc rows Following test from to₀ to
 
 abbrev μ-loop : tie.MeasureT-loop
 μ-loop doc rows test from to₀ least₀ v₀ to least v = rows - v
@@ -34,8 +34,8 @@ level-of-requires c κs = (c .before .before .before .before .before .pre .known
 pick-requires : tie.Need-pick-requires Inv-loop μ-loop
 pick-requires c κs = tt
 
-keep-requires : tie.Need-keep-requires Inv-loop μ-loop
-keep-requires c κs = omega arith
+takes-requires : tie.Need-takes-requires Inv-loop μ-loop
+takes-requires c κs = omega arith
 
 slice-write-to : tie.Need-slice-write-to Inv-loop μ-loop
 slice-write-to c = omega arith
@@ -60,8 +60,8 @@ loop-less c = omega arith
 loop-again : tie.Need-loop-again Inv-loop μ-loop
 loop-again c =
     let end = c .before .before .before .before in
-    let keep = end .before in
-    let pick = keep .before .before in
+    let takes = end .before in
+    let pick = takes .before .before in
     let level = pick .before in
     let turn = level .before in
     let loop = turn .before .loop in
@@ -79,7 +79,7 @@ loop-again c =
           (least-more cat (args .rows) nested from (loop .v) (pick .pick .result .0) here entered),
       part-up (args .doc .now) (args .rows) Following (args .test) from (args .to .now) (loop .to) (loop .v) _ _
           (omega arith)
-          (keep .keep .ensures (args .rows))
+          (takes .takes .ensures (args .rows))
           (least-flag cat (args .rows) nested from (loop .v) (pick .pick .result .0) here entered)
           (loop .inv .2),
     )
@@ -101,7 +101,7 @@ following-step-spec =
     loop-holds
     level-of-requires
     pick-requires
-    keep-requires
+    takes-requires
     slice-write-to
     end-of-requires
     shared-slice-read-pick

@@ -7,7 +7,7 @@ use lib.ListN.{getD}
 use native.Mathlib.Omega.{arith}
 use Rattle.codes.specs.declared.Axis.the-variants.{Parent}
 use Rattle.meaning.specs.Catalogue.{catalogueOf}
-use Rattle.axes.specs.Steps.{Part}
+use Rattle.axes.specs.Steps.{AxisPart}
 use Rattle.axes.proofs.Marking.{part-none, part-down}
 use Rattle.axes.proofs.Parent.{Waits, waits-begin, waits-more, waits-flag}
 use Rattle.axes.proofs.parent_step.Statement.{statement}
@@ -17,7 +17,7 @@ abbrev Inv-loop : tie.InvT-loop
 Inv-loop doc rows test from to₀ waits₀ left₀ to waits left =
     (left ≤ rows)
     × Waits rows (catalogueOf doc rows .level) from left waits
-    × Part left rows doc rows Parent test from to₀ to
+    × AxisPart left rows doc rows Parent test from to₀ to
 
 abbrev μ-loop : tie.MeasureT-loop
 μ-loop doc rows test from to₀ waits₀ left₀ to waits left = left
@@ -36,14 +36,14 @@ sub-v c = omega arith
 level-of-requires : tie.Need-level-of-requires Inv-loop μ-loop
 level-of-requires c κs = (c .before .before .before .before .before .pre .known, omega arith)
 
-add-keep : tie.Need-add-keep Inv-loop μ-loop
-add-keep c = omega arith
+add-takes : tie.Need-add-takes Inv-loop μ-loop
+add-takes c = omega arith
 
-array-read-keep : tie.Need-array-read-keep Inv-loop μ-loop
-array-read-keep c = omega arith
+array-read-takes : tie.Need-array-read-takes Inv-loop μ-loop
+array-read-takes c = omega arith
 
-keep-requires : tie.Need-keep-requires Inv-loop μ-loop
-keep-requires c κs = omega arith
+takes-requires : tie.Need-takes-requires Inv-loop μ-loop
+takes-requires c κs = omega arith
 
 slice-write-to : tie.Need-slice-write-to Inv-loop μ-loop
 slice-write-to c = omega arith
@@ -68,8 +68,8 @@ loop-less c = omega arith
 
 loop-again : tie.Need-loop-again Inv-loop μ-loop
 loop-again c =
-    let keep = c .before in
-    let level = keep .before in
+    let takes = c .before in
+    let level = takes .before in
     let turn = level .before in
     let loop = turn .before .loop in
     let start = turn .before .before .before .before .before in
@@ -85,7 +85,7 @@ loop-again c =
           (waits-more cat (args .rows) nested from (loop .left) v here there (loop .waits) (loop .inv .1)),
       part-down (args .doc .now) (args .rows) Parent (args .test) from (args .to .now) (loop .to) v _ _
           (omega arith)
-          (keep .keep .ensures (args .rows))
+          (takes .takes .ensures (args .rows))
           (ap (λ l. getD (loop .waits) (l + 1) false) (level .level-of .ensures .0)
           ∙ waits-flag cat (args .rows) nested from (loop .left) v here there (loop .waits) (loop .inv .1))
           (loop .left) here there (loop .inv .2),
@@ -108,9 +108,9 @@ parent-step-spec =
     loop-holds
     sub-v
     level-of-requires
-    add-keep
-    array-read-keep
-    keep-requires
+    add-takes
+    array-read-takes
+    takes-requires
     slice-write-to
     array-read-waiting
     shared-slice-read-waiting

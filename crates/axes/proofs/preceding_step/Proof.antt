@@ -6,7 +6,7 @@ use lib.Dec.{ltb}
 use native.Mathlib.Omega.{arith}
 use Rattle.codes.specs.declared.Axis.the-variants.{Preceding}
 use Rattle.meaning.specs.Catalogue.{catalogueOf}
-use Rattle.axes.specs.Steps.{Part}
+use Rattle.axes.specs.Steps.{AxisPart}
 use Rattle.axes.proofs.Marking.{part-none, part-down}
 use Rattle.axes.proofs.Preceding.{Last, last-begin, last-more, last-flag}
 use Rattle.axes.proofs.preceding_step.Statement.{statement}
@@ -16,7 +16,7 @@ abbrev Inv-loop : tie.InvT-loop
 Inv-loop doc rows test from to₀ last₀ left₀ to last left =
     (left ≤ rows)
     × Last rows (catalogueOf doc rows .level) from left (last .0)
-    × Part left rows doc rows Preceding test from to₀ to
+    × AxisPart left rows doc rows Preceding test from to₀ to
 
 abbrev μ-loop : tie.MeasureT-loop
 μ-loop doc rows test from to₀ last₀ left₀ to last left = left
@@ -34,8 +34,8 @@ sub-v c = omega arith
 end-of-requires : tie.Need-end-of-requires Inv-loop μ-loop
 end-of-requires c κs = (c .before .before .before .before .before .pre .known, omega arith)
 
-keep-requires : tie.Need-keep-requires Inv-loop μ-loop
-keep-requires c κs = omega arith
+takes-requires : tie.Need-takes-requires Inv-loop μ-loop
+takes-requires c κs = omega arith
 
 slice-write-to : tie.Need-slice-write-to Inv-loop μ-loop
 slice-write-to c = omega arith
@@ -48,8 +48,8 @@ pick-requires c κs = tt
 
 level-of-requires : tie.Need-level-of-requires Inv-loop μ-loop
 level-of-requires c κs =
-    let keep = c .before .before .before in
-    let turn = keep .before .before .before .before in
+    let takes = c .before .before .before in
+    let turn = takes .before .before .before .before in
     (turn .before .before .before .before .before .pre .known, omega arith)
 
 pick-requires-2 : tie.Need-pick-requires-2 Inv-loop μ-loop
@@ -62,8 +62,8 @@ loop-again : tie.Need-loop-again Inv-loop μ-loop
 loop-again c =
     let level = c .before in
     let pick = level .before in
-    let keep = pick .before .before .before in
-    let end = keep .before .before .before in
+    let takes = pick .before .before .before in
+    let end = takes .before .before .before in
     let turn = end .before in
     let loop = turn .before .loop in
     let start = turn .before .before .before .before .before in
@@ -78,7 +78,7 @@ loop-again c =
           (last-more cat (args .rows) from (loop .left) v (loop .last .0) here there (loop .inv .1)),
       part-down (args .doc .now) (args .rows) Preceding (args .test) from (args .to .now) (loop .to) v _ _
           (omega (arith, start .pre .targets))
-          (keep .keep .ensures (args .rows))
+          (takes .takes .ensures (args .rows))
           (ap (λ e. ltb e (loop .last .0)) (end .end-of .ensures .0)
           ∙ last-flag cat (args .rows) from (loop .left) v (loop .last .0) here there (loop .inv .1))
           (loop .left) here there (loop .inv .2),
@@ -101,7 +101,7 @@ preceding-step-spec =
     loop-holds
     sub-v
     end-of-requires
-    keep-requires
+    takes-requires
     slice-write-to
     shared-slice-read-pick
     pick-requires

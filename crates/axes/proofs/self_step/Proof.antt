@@ -4,14 +4,14 @@ use mathlib.Core.Path.{_≡_}
 use native.Mathlib.Omega.{arith}
 use Rattle.codes.specs.declared.Axis.the-variants.{Itself}
 use Rattle.meaning.specs.Catalogue.{catalogueOf}
-use Rattle.axes.specs.Steps.{Part}
+use Rattle.axes.specs.Steps.{AxisPart}
 use Rattle.axes.proofs.Marking.{part-none, part-up}
 use Rattle.axes.proofs.Itself.{self-flag}
 use Rattle.axes.proofs.self_step.Statement.{statement}
 use Rattle.axes.proofs.self_step.Tie as tie
 
 abbrev Inv-loop : tie.InvT-loop
-Inv-loop doc rows test from to₀ v₀ to v = (v ≤ rows) × Part 0 v doc rows Itself test from to₀ to
+Inv-loop doc rows test from to₀ v₀ to v = (v ≤ rows) × AxisPart 0 v doc rows Itself test from to₀ to
 
 abbrev μ-loop : tie.MeasureT-loop
 μ-loop doc rows test from to₀ v₀ to v = rows - v
@@ -19,11 +19,11 @@ abbrev μ-loop : tie.MeasureT-loop
 loop-holds : tie.Need-loop-holds Inv-loop μ-loop
 loop-holds c = (zero-le, part-none _ _ _ _ _ _ 0)
 
-shared-slice-read-keep : tie.Need-shared-slice-read-keep Inv-loop μ-loop
-shared-slice-read-keep c = omega arith
+shared-slice-read-takes : tie.Need-shared-slice-read-takes Inv-loop μ-loop
+shared-slice-read-takes c = omega arith
 
-keep-requires : tie.Need-keep-requires Inv-loop μ-loop
-keep-requires c κs = omega arith
+takes-requires : tie.Need-takes-requires Inv-loop μ-loop
+takes-requires c κs = omega arith
 
 slice-write-to : tie.Need-slice-write-to Inv-loop μ-loop
 slice-write-to c = omega arith
@@ -44,7 +44,7 @@ loop-again c =
       part-up (args .doc .now) (args .rows) Itself (args .test) (args .from .now) (args .to .now) (loop .to) (loop .v)
           _ _
           (omega arith)
-          (c .keep .ensures (args .rows))
+          (c .takes .ensures (args .rows))
           (self-flag cat (args .rows) (args .from .now) (loop .v) (turn .loop-test .taken))
           (loop .inv .1),
     )
@@ -64,8 +64,8 @@ self-step-spec =
     Inv-loop
     μ-loop
     loop-holds
-    shared-slice-read-keep
-    keep-requires
+    shared-slice-read-takes
+    takes-requires
     slice-write-to
     add-v
     loop-less

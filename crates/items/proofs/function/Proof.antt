@@ -8,7 +8,7 @@ use Rattle.cells.specs.Cell.{truthCell}
 use Rattle.codes.specs.declared.Function.the-variants.{Add, Subtract, Multiply, Divide, Equal, Less}
 use Rattle.laws.specs.Attempt.{gives}
 use Rattle.meaning.specs.World as World
-use Rattle.items.specs.Answers.{number, tried}
+use Rattle.items.specs.Answers.{integerTried, tried}
 use Rattle.items.proofs.Cases.{number-ranged, number-quotient, function-is}
 use borrow.Author.Needs.{needs}
 use Rattle.items.proofs.function.Statement.{statement}
@@ -79,7 +79,7 @@ returns : tie.Need-returns
 unfolding World.function
 returns c =
     c .given .ensures
-    ∙ ap number (c .before .sum .ensures)
+    ∙ ap integerTried (c .before .sum .ensures)
     ∙ number-ranged _
     ∙ function-is _ Add _ _ _ _ (c .before .before .enum-told .given .1) (x-is (c .before .before .before .before))
     (y-is (c .before .before .before .before))
@@ -88,7 +88,7 @@ returns-2 : tie.Need-returns-2
 unfolding World.function
 returns-2 c =
     c .given2 .ensures
-    ∙ ap number (c .before .difference .ensures)
+    ∙ ap integerTried (c .before .difference .ensures)
     ∙ number-ranged _
     ∙ function-is _ Subtract _ _ _ _ (c .before .before .enum-told2 .given .1)
     (x-is (c .before .before .before .before)) (y-is (c .before .before .before .before))
@@ -97,7 +97,7 @@ returns-3 : tie.Need-returns-3
 unfolding World.function
 returns-3 c =
     c .given3 .ensures
-    ∙ ap number (c .before .product .ensures)
+    ∙ ap integerTried (c .before .product .ensures)
     ∙ number-ranged _
     ∙ function-is _ Multiply _ _ _ _ (c .before .before .enum-told3 .given .1)
     (x-is (c .before .before .before .before)) (y-is (c .before .before .before .before))
@@ -106,7 +106,7 @@ returns-4 : tie.Need-returns-4
 unfolding World.function
 returns-4 c =
     c .given4 .ensures
-    ∙ ap number (c .before .quotient .ensures)
+    ∙ ap integerTried (c .before .quotient .ensures)
     ∙ number-quotient _ _
     ∙ function-is _ Divide _ _ _ _ (c .before .before .enum-told4 .given .1) (x-is (c .before .before .before .before))
     (y-is (c .before .before .before .before))

@@ -4,7 +4,7 @@ use mir.Syntax.{w32}
 use mir.Val.{SFits}
 use mir.Facts.{toZ-ofZ, sfits-widen}
 use Rattle.laws.specs.Attempt.{gives}
-use Rattle.items.specs.Answers.{number, tried}
+use Rattle.items.specs.Answers.{integerTried, tried}
 use borrow.Author.Needs.{needs}
 use Rattle.items.proofs.given.Statement.{statement}
 use Rattle.items.proofs.given.Tie as tie
@@ -23,12 +23,12 @@ enum-told : tie.Need-enum-told
 enum-told c = search needs
 
 returns : tie.Need-returns
-unfolding number tried
-returns c = ap gives (toZ-ofZ (cast-t4 c) ∙ toZ-ofZ (narrow c)) ∙ sym (ap number (c .before .n .given .1))
+unfolding integerTried tried
+returns c = ap gives (toZ-ofZ (cast-t4 c) ∙ toZ-ofZ (narrow c)) ∙ sym (ap integerTried (c .before .n .given .1))
 
 returns-2 : tie.Need-returns-2
-unfolding number tried
-returns-2 c = sym (ap number (c .enum-told .given .1))
+unfolding integerTried tried
+returns-2 c = sym (ap integerTried (c .enum-told .given .1))
 
 pub given-spec : {M : Type 1} → statement M
 given-spec = tie.close (tie.spec enum-known-n cast-t4 enum-told returns returns-2)

@@ -5,7 +5,7 @@ use mir.Syntax.{w32}
 use mir.Val.{SFits}
 use Rattle.meaning.specs.World.{integerIn}
 use Rattle.laws.specs.Attempt.{gives}
-use Rattle.items.specs.Answers.{number, holding}
+use Rattle.items.specs.Answers.{integerTried, holding}
 use borrow.Author.Needs.{needs}
 use Rattle.items.proofs.integer_in.Statement.{statement}
 use Rattle.items.proofs.integer_in.Tie as tie
@@ -24,15 +24,15 @@ enum-told-2 : tie.Need-enum-told-2
 enum-told-2 c = search needs
 
 returns : tie.Need-returns
-unfolding number integerIn
+unfolding integerTried integerIn
 returns c = ap gives (toZ-ofZ (narrow c)) ∙ sym (ap (λ i. integerIn (holding i)) (c .before .item .given .1))
 
 returns-2 : tie.Need-returns-2
-unfolding number integerIn
+unfolding integerTried integerIn
 returns-2 c = sym (ap (λ i. integerIn (holding i)) (c .enum-told .given .1))
 
 returns-3 : tie.Need-returns-3
-unfolding number integerIn
+unfolding integerTried integerIn
 returns-3 c = sym (ap (λ i. integerIn (holding i)) (c .enum-told2 .given .1))
 
 pub integer-in-spec : {M : Type 1} → statement M

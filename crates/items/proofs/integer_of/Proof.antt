@@ -3,7 +3,7 @@ use mathlib.Core.Path.{_≡_, sym, _∙_, ap}
 use mir.Facts.{toZ-ofZ}
 use Rattle.cells.specs.Cell.{held}
 use Rattle.meaning.specs.World.{integerOf, integerIn}
-use Rattle.items.specs.Answers.{number}
+use Rattle.items.specs.Answers.{integerTried}
 use borrow.Author.Needs.{needs}
 use Rattle.items.proofs.integer_of.Statement.{statement}
 use Rattle.items.proofs.integer_of.Tie as tie
@@ -22,7 +22,7 @@ enum-told : tie.Need-enum-told
 enum-told c = search needs
 
 returns : tie.Need-returns
-unfolding number integerOf integerIn
+unfolding integerTried integerOf integerIn
 returns c = sym (ap integerIn (sym (holds (c .before .before)) ∙ c .enum-told .given .1))
 
 integer-in-requires : tie.Need-integer-in-requires

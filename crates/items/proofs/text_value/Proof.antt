@@ -3,7 +3,7 @@ use mathlib.Core.Path.{_∙_}
 use native.Mathlib.Omega.{arith}
 use mir.Syntax.{w32}
 use Rattle.cells.proofs.Bits.{read-back}
-use Rattle.items.specs.Answers.{number, tried}
+use Rattle.items.specs.Answers.{integerTried, tried}
 use Rattle.items.proofs.Cases.{text-outside, text-other, text-is}
 use borrow.Author.Needs.{needs}
 use Rattle.items.proofs.text_value.Statement.{statement}
@@ -27,7 +27,7 @@ given-requires : tie.Need-given-requires
 given-requires c κs = search needs
 
 returns-3 : tie.Need-returns-3
-unfolding number
+unfolding integerTried
 returns-3 c =
     c .given .ensures
     ∙ text-is _ _ _ _ _ (omega arith) (c .before .before .before .kind .ensures .0) (c .before .before .if2 .left)

@@ -6,7 +6,7 @@ use mir.Facts.{toZ-ofZ}
 use Rattle.cells.proofs.Bits.{read-back}
 use Rattle.laws.specs.Attempt.{gives}
 use Rattle.meaning.specs.World.{valueIn}
-use Rattle.items.specs.Answers.{number, tried, textValue}
+use Rattle.items.specs.Answers.{integerTried, tried, textValue}
 use Rattle.items.proofs.Cases.{value-is}
 use borrow.Author.Needs.{needs}
 use Rattle.items.proofs.value_in.Statement.{statement}
@@ -35,7 +35,7 @@ text-value-requires : tie.Need-text-value-requires
 text-value-requires c κs = search needs
 
 returns : tie.Need-returns
-unfolding number valueIn
+unfolding integerTried valueIn
 returns c =
     c .given .ensures
     ∙ ap gives (toZ-ofZ (narrow (c .before)))

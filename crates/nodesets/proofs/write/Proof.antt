@@ -9,14 +9,14 @@ use lib.ListN.{length, set, length-set}
 use mir.Facts.{toZ-ofZ}
 use mir.Syntax.{w64}
 use Rattle.cells.specs.Cell.{nodeCell}
-use Rattle.nodesets.specs.Nodes.{Listed}
+use Rattle.nodesets.specs.Nodes.{ListedNodes}
 use Rattle.nodesets.proofs.Writing.{laid-begin, laid-skip, node-take, ranks-room}
 use Rattle.nodesets.proofs.write.Statement.{statement}
 use Rattle.nodesets.proofs.write.Tie as tie
 
 abbrev Inv-loop : tie.InvT-loop
 Inv-loop marks rows work₀ at n₀ v₀ work n v =
-    (v ≤ rows) × (length work ≡ length work₀) × Listed (map nodeCell) marks v n at work₀ work
+    (v ≤ rows) × (length work ≡ length work₀) × ListedNodes (map nodeCell) marks v n at work₀ work
 
 abbrev μ-loop : tie.MeasureT-loop
 μ-loop marks rows work₀ at n₀ v₀ work n v = rows - v

@@ -13,14 +13,14 @@ use mir.Val.{ofZ, toZ}
 use Rattle.cells.specs.Cell.{nodeCell}
 use Rattle.laws.specs.Rows.{laid}
 use Rattle.nodesets.specs.Nodes.{ranks}
-use Rattle.nodesets.specs.Nodes.{rowsOf, Listed}
+use Rattle.nodesets.specs.Nodes.{rowsOf, ListedNodes}
 use Rattle.nodesets.proofs.Writing.{rows-begin, laid-skip, row-take, ranks-room}
 use Rattle.nodesets.proofs.write_rows.Statement.{statement}
 use Rattle.nodesets.proofs.write_rows.Tie as tie
 
 abbrev Inv-loop : tie.InvT-loop
 Inv-loop marks rows work₀ at cell n₀ v₀ work n v =
-    (v ≤ rows) × (length work ≡ length work₀) × Listed (rowsOf (toZ w64 cell)) marks v n at work₀ work
+    (v ≤ rows) × (length work ≡ length work₀) × ListedNodes (rowsOf (toZ w64 cell)) marks v n at work₀ work
 
 abbrev μ-loop : tie.MeasureT-loop
 μ-loop marks rows work₀ at cell n₀ v₀ work n v = rows - v

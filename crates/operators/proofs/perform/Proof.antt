@@ -6,7 +6,7 @@ use mir.Facts.{toZ-ofZ}
 use Rattle.rowwise.specs.Tasks.{Suits, wider}
 use Rattle.plans.specs.Accepted.{Suited}
 use Rattle.plans.specs.Widths.{tablesOf}
-use Rattle.directory.specs.Sound.{SoundOf, Sound}
+use Rattle.directory.specs.Sound.{SoundOf, SoundOperator}
 use Rattle.directory.proofs.Cases.{sound-case, listed}
 use Rattle.operators.proofs.Performed.{one-made, attach-made, project-made, union-made, minus-made}
 use Rattle.operators.proofs.Performed.{select-made}
@@ -35,7 +35,7 @@ enum-known-operator : tie.Need-enum-known-operator
 enum-known-operator c = search needs
 
 rowwise-requires : tie.Need-rowwise-requires
-unfolding Sound SoundOf tablesOf Suited Suits wider
+unfolding SoundOperator SoundOf tablesOf Suited Suits wider
 rowwise-requires c κs =
     let told = c .before .before in
     let start = start-of (told .before .before) in
@@ -53,7 +53,7 @@ enum-known-operator-2 : tie.Need-enum-known-operator-2
 enum-known-operator-2 c = search needs
 
 rowwise-requires-2 : tie.Need-rowwise-requires-2
-unfolding Sound SoundOf tablesOf Suited Suits wider
+unfolding SoundOperator SoundOf tablesOf Suited Suits wider
 rowwise-requires-2 c κs =
     let told = c .before .before in
     let start = start-of (told .before .before) in
@@ -71,7 +71,7 @@ enum-known-operator-3 : tie.Need-enum-known-operator-3
 enum-known-operator-3 c = search needs
 
 union-requires : tie.Need-union-requires
-unfolding Sound SoundOf tablesOf Suited
+unfolding SoundOperator SoundOf tablesOf Suited
 union-requires c κs =
     let told = c .before .before in
     let start = start-of (told .before .before) in
@@ -90,7 +90,7 @@ enum-known-operator-4 : tie.Need-enum-known-operator-4
 enum-known-operator-4 c = search needs
 
 minus-requires : tie.Need-minus-requires
-unfolding Sound SoundOf tablesOf Suited
+unfolding SoundOperator SoundOf tablesOf Suited
 minus-requires c κs =
     let told = c .before .before in
     let start = start-of (told .before .before) in
@@ -109,7 +109,7 @@ enum-known-operator-5 : tie.Need-enum-known-operator-5
 enum-known-operator-5 c = search needs
 
 rowwise-requires-3 : tie.Need-rowwise-requires-3
-unfolding Sound SoundOf tablesOf Suited Suits wider
+unfolding SoundOperator SoundOf tablesOf Suited Suits wider
 rowwise-requires-3 c κs =
     let told = c .before .before in
     let start = start-of (told .before .before) in
@@ -121,7 +121,7 @@ enum-known-operator-6 : tie.Need-enum-known-operator-6
 enum-known-operator-6 c = search needs
 
 join-requires : tie.Need-join-requires
-unfolding Sound SoundOf tablesOf Suited
+unfolding SoundOperator SoundOf tablesOf Suited
 join-requires c κs =
     let told = c .before .before in
     let start = start-of (told .before .before) in
@@ -140,7 +140,7 @@ enum-known-operator-7 : tie.Need-enum-known-operator-7
 enum-known-operator-7 c = search needs
 
 number-requires : tie.Need-number-requires
-unfolding Sound SoundOf tablesOf Suited
+unfolding SoundOperator SoundOf tablesOf Suited
 number-requires c κs =
     let told = c .before .before .before .before in
     let start = start-of (told .before .before) in
@@ -153,7 +153,7 @@ enum-known-operator-8 : tie.Need-enum-known-operator-8
 enum-known-operator-8 c = search needs
 
 rowwise-requires-4 : tie.Need-rowwise-requires-4
-unfolding Sound SoundOf tablesOf Suited Suits wider
+unfolding SoundOperator SoundOf tablesOf Suited Suits wider
 rowwise-requires-4 c κs =
     let told = c .before .before in
     let start = start-of (told .before .before) in
@@ -171,7 +171,7 @@ enum-known-operator-9 : tie.Need-enum-known-operator-9
 enum-known-operator-9 c = search needs
 
 rowwise-requires-5 : tie.Need-rowwise-requires-5
-unfolding Sound SoundOf tablesOf Suited Suits wider
+unfolding SoundOperator SoundOf tablesOf Suited Suits wider
 rowwise-requires-5 c κs =
     let told = c .before .before in
     let start = start-of (told .before .before) in
@@ -189,7 +189,7 @@ enum-known-operator-10 : tie.Need-enum-known-operator-10
 enum-known-operator-10 c = search needs
 
 counts-requires : tie.Need-counts-requires
-unfolding Sound SoundOf tablesOf Suited
+unfolding SoundOperator SoundOf tablesOf Suited
 counts-requires c κs =
     let told = c .before .before in
     let start = start-of (told .before .before) in
@@ -200,7 +200,7 @@ enum-known-operator-11 : tie.Need-enum-known-operator-11
 enum-known-operator-11 c = search needs
 
 truths-requires : tie.Need-truths-requires
-unfolding Sound SoundOf tablesOf Suited
+unfolding SoundOperator SoundOf tablesOf Suited
 truths-requires c κs =
     let told = c .before .before in
     let start = start-of (told .before .before) in
@@ -218,7 +218,7 @@ enum-known-operator-12 : tie.Need-enum-known-operator-12
 enum-known-operator-12 c = search needs
 
 once-requires : tie.Need-once-requires
-unfolding Sound SoundOf tablesOf Suited
+unfolding SoundOperator SoundOf tablesOf Suited
 once-requires c κs =
     let told = c .before .before in
     let start = start-of (told .before .before) in
@@ -229,7 +229,7 @@ enum-known-operator-13 : tie.Need-enum-known-operator-13
 enum-known-operator-13 c = search needs
 
 steps-requires : tie.Need-steps-requires
-unfolding Sound SoundOf tablesOf Suited
+unfolding SoundOperator SoundOf tablesOf Suited
 steps-requires c κs =
     let told = c .before .before .before .before in
     let start = start-of (told .before .before) in
@@ -240,7 +240,7 @@ enum-known-operator-14 : tie.Need-enum-known-operator-14
 enum-known-operator-14 c = search needs
 
 root-requires : tie.Need-root-requires
-unfolding Sound SoundOf tablesOf Suited
+unfolding SoundOperator SoundOf tablesOf Suited
 root-requires c κs =
     let told = c .before .before in
     let start = start-of (told .before .before) in

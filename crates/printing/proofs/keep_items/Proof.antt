@@ -10,8 +10,8 @@ enum-known-ran c = search needs
 returns : tie.Need-returns
 returns c = kept-none _ _ _ (c .match .keys2)
 
-keep-requires : tie.Need-keep-requires
-keep-requires c κs =
+copy-items-requires : tie.Need-copy-items-requires
+copy-items-requires c κs =
     let read = c .before .before in
     let start = read .before .before in
     kept-fits _ _ _ _ _ _ (read .ran .given .1) (start .pre .0) (start .pre .1)
@@ -22,7 +22,7 @@ same-length c = search needs
 returns-2 : tie.Need-returns-2
 returns-2 c =
     let keep = c .before in
-    kept-tables _ _ _ _ _ _ _ (keep .before .before .before .ran .given .1) (keep .keep .ensures)
+    kept-tables _ _ _ _ _ _ _ (keep .before .before .before .ran .given .1) (keep .copy-items .ensures)
 
 pub keep-items-spec : {M : Type 1} → statement M
-keep-items-spec = tie.close (tie.spec enum-known-ran returns keep-requires same-length returns-2)
+keep-items-spec = tie.close (tie.spec enum-known-ran returns copy-items-requires same-length returns-2)

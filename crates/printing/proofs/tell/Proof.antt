@@ -1,7 +1,7 @@
 -- `tell` meets its contract: the translator's refusal, or the text of its plan.
 use mathlib.Core.Path.{refl}
 use native.Mathlib.Omega.{arith}
-use Rattle.lines.specs.Placed.{Stands, roomFor}
+use Rattle.lines.specs.Placed.{GaveStands, roomFor}
 use Rattle.printing.proofs.Joined.{bytes-within, tells-refused, tells-plan}
 use borrow.Author.Needs.{needs}
 use Rattle.printing.proofs.tell.Statement.{statement}
@@ -40,7 +40,7 @@ enum-known-translated : tie.Need-enum-known-translated
 enum-known-translated c = search needs
 
 write-requires : tie.Need-write-requires
-unfolding Stands roomFor
+unfolding GaveStands roomFor
 write-requires c κs =
     let long = known-of (translate-of (c .before .before .before .before)) .before .pre .1 .1 in
     ((omega (arith, long), omega (arith, long)), (tt, tt))

@@ -31,8 +31,8 @@ column c =
     column-test _ _ _ _ _ (omega arith)
     (c .same .ensures ∙ ap (λ z. same z trueCell) (toZ-ofZ (record { sfits = c .before .same-arg .given })))
 
-keep-requires : tie.Need-keep-requires
-keep-requires c κs = search needs
+repeat-requires : tie.Need-repeat-requires
+repeat-requires c κs = search needs
 
 same-length : tie.Need-same-length
 same-length c = search needs
@@ -40,7 +40,7 @@ same-length c = search needs
 returns : tie.Need-returns
 returns c =
     let at = c .before .before .before .before in
-    owes-then _ _ _ _ _ _ _ _ _ (column at ∙ c .before .before .before .if1 .taken) (c .before .keep .ensures)
+    owes-then _ _ _ _ _ _ _ _ _ (column at ∙ c .before .before .before .if1 .taken) (c .before .repeat .ensures)
 
 returns-2 : tie.Need-returns-2
 returns-2 c = owes-else _ _ _ _ _ _ _ _ _ (column (c .before) ∙ c .if1 .left) (none-laid _ _ _ _ (omega arith))
@@ -53,7 +53,7 @@ select-spec =
     mul-same
     slice-copy-out-same
     same-requires
-    keep-requires
+    repeat-requires
     same-length
     returns
     returns-2)

@@ -73,7 +73,7 @@ pub +branch+choice+each-item+turns+two+work-out-spec : {M : Type 1} → statemen
     (each-item-part.returns t)
     (each-item-part.skip-requires t)
     (each-item-part.turns-requires t)
-    (each-item-part.keep-requires t)
+    (each-item-part.drop-first-requires t)
     (each-item-part.same-length-2 t)
     (each-item-part.returns-2 t))
     (λ t. turns-lts.spec (turns-part.turns-callees t) (turns-at t) turns.Post turns-part.turns-Inv-loop
@@ -129,7 +129,7 @@ pub +branch+choice+each-item+turns+two+work-out-spec : {M : Type 1} → statemen
     (work-out-part.join-requires t)
     (work-out-part.enum-known-kind-4 t)
     (work-out-part.two-requires-2 t)
-    (work-out-part.keep-requires t)
+    (work-out-part.drop-first-requires t)
     (work-out-part.enum-known-kind-5 t)
     (work-out-part.each-item-requires t)
     (work-out-part.enum-told-4 t)

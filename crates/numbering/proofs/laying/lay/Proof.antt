@@ -3,13 +3,13 @@ use Prim.Native.Nat.{_+_, _-_, _≤_}
 use mathlib.Core.Path.{refl}
 use lib.ListN.{length}
 use native.Mathlib.Omega.{arith}
-use Rattle.numbering.proofs.Pass.{Turning, begins, goes-on, ends, asked, row-room}
+use Rattle.numbering.proofs.Pass.{NumberingTurn, begins, goes-on, ends, asked, row-room}
 use borrow.Author.Needs.{needs}
 use Rattle.numbering.proofs.laying.lay.Statement.{statement}
 use Rattle.numbering.proofs.laying.lay.Tie as tie
 
 abbrev Inv-loop : tie.InvT-loop
-Inv-loop work₀ s p order at n w to₀ c₀ last₀ i₀ work to c last i = Turning work₀ s p order at work to c last i
+Inv-loop work₀ s p order at n w to₀ c₀ last₀ i₀ work to c last i = NumberingTurn work₀ s p order at work to c last i
 
 abbrev μ-loop : tie.MeasureT-loop
 μ-loop work₀ s p order at n w to₀ c₀ last₀ i₀ work to c last i = n - i

@@ -6,7 +6,7 @@ use lib.ListN.{length}
 use mathlib.Core.Path.{refl}
 use Rattle.plan_records.specs.declared.Operator.the-variants as Operator
 use Rattle.plan_records.specs.Arms as Arms
-use Rattle.plan_records.specs.Decoded.{operatorOf, Stands}
+use Rattle.plan_records.specs.Decoded.{operatorOf, ColumnsStand}
 use Rattle.plan_records.proofs.Sized.{there, cut-reads, sound-reads}
 use Rattle.plan_records.proofs.records.one.Statement.{statement}
 use Rattle.plan_records.proofs.records.one.Tie as tie
@@ -36,7 +36,7 @@ sound-requires : tie.Need-sound-requires
 sound-requires c κs = search needs
 
 returns-2 : tie.Need-returns-2
-unfolding Arms.one operatorOf Stands
+unfolding Arms.one operatorOf ColumnsStand
 returns-2 c =
     let e = c .before in
     let a = e .before .before .before .args in

@@ -11,8 +11,8 @@ has-equal-requires : tie.Need-has-equal-requires
 unfolding Inside
 has-equal-requires c κs = (omega arith, omega arith, c .before .pre .4)
 
-keep-requires : tie.Need-keep-requires
-keep-requires c κs = search needs
+repeat-requires : tie.Need-repeat-requires
+repeat-requires c κs = search needs
 
 same-length : tie.Need-same-length
 same-length c = search needs
@@ -29,9 +29,9 @@ returns-2 : tie.Need-returns-2
 returns-2 c =
     owes-else _ _ _ _ _ _ _ _ _
     (sym (c .before .before .before .before .has-equal .ensures) ∙ c .before .before .before .if1 .left)
-    (c .before .keep .ensures)
+    (c .before .repeat .ensures)
 
 pub minus-spec : {M : Type 1} → statement M
 minus-spec =
     tie.close
-    (tie.spec has-equal-requires keep-requires same-length returns same-length-2 returns-2)
+    (tie.spec has-equal-requires repeat-requires same-length returns same-length-2 returns-2)

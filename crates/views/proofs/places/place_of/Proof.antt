@@ -2,7 +2,7 @@
 use native.Mathlib.Omega.{arith}
 use native.Mathlib.Nat.{mul-le-mul}
 use Prim.Native.Nat.{_≤_}
-use Rattle.views.specs.Places.{Standing}
+use Rattle.views.specs.Places.{PlaceStands}
 use Rattle.views.proofs.Placing.{none-answered, past-end, last-place, many-rows, past-start, before-place}
 use borrow.Author.Needs.{needs}
 use Rattle.views.proofs.places.place_of.Statement.{statement}
@@ -12,11 +12,11 @@ enum-known-ran : tie.Need-enum-known-ran
 enum-known-ran c = search needs
 
 returns : tie.Need-returns
-unfolding Standing
+unfolding PlaceStands
 returns c = (none-answered _ _ _ (c .match .keys2), tt)
 
 returns-2 : tie.Need-returns-2
-unfolding Standing
+unfolding PlaceStands
 returns-2 c = (past-end _ _ _ _ _ _ (c .before .before .ran .given .1) (c .if1 .taken), tt)
 
 within-requires : tie.Need-within-requires
@@ -33,7 +33,7 @@ returns-3 c =
     )
 
 returns-4 : tie.Need-returns-4
-unfolding Standing
+unfolding PlaceStands
 returns-4 c =
     let other = c .before in
     let on = other .before in
@@ -48,7 +48,7 @@ mul-cells c =
     omega (arith, mul-le-mul few (start .pre .0))
 
 returns-5 : tie.Need-returns-5
-unfolding Standing
+unfolding PlaceStands
 returns-5 c =
     let few = c .before in
     let other = few .before in

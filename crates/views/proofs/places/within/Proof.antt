@@ -1,16 +1,16 @@
 -- `places::within` meets its contract, by the test of the room.
 use native.Mathlib.Omega.{arith}
-use Rattle.views.specs.Places.{Standing}
+use Rattle.views.specs.Places.{PlaceStands}
 use Rattle.views.proofs.Placing.{placed-past, placed-within}
 use Rattle.views.proofs.places.within.Statement.{statement}
 use Rattle.views.proofs.places.within.Tie as tie
 
 returns : tie.Need-returns
-unfolding Standing
+unfolding PlaceStands
 returns c = (placed-past _ _ _ (c .if1 .taken), tt)
 
 returns-2 : tie.Need-returns-2
-unfolding Standing
+unfolding PlaceStands
 returns-2 c =
     let inside = c .if1 .left in
     (placed-within _ _ _ (omega arith), (c .before .pre, omega arith))

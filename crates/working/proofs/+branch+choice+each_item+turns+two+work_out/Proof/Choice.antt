@@ -42,10 +42,10 @@ choice-callees t = (
 module _ (t : ℕ) where
   -- where the condition is told, where the function starts, and the condition worked out as the first branch is behind
   -- it
-  abbrev Told : Type 0
-  Told = choice-lts.After-known-told (choice-callees t) (choice-at t) choice.Post
+  abbrev AfterTold : Type 0
+  AfterTold = choice-lts.After-known-told (choice-callees t) (choice-at t) choice.Post
 
-  abbrev start-of : Told → choice-lts.Start (choice-callees t) (choice-at t) choice.Post
+  abbrev start-of : AfterTold → choice-lts.Start (choice-callees t) (choice-at t) choice.Post
   start-of c = c .before .before .before .before .before .before .before .before
 
   abbrev work-out-of :
@@ -56,7 +56,7 @@ module _ (t : ℕ) where
 
   -- the condition's items stand within the room
   fits :
-      (c : Told) →
+      (c : AfterTold) →
       (c .before .c .given .0 .0 ≤ c .before .c .given .0 .1 .0)
       × (start-of c .args .top + c .before .c .given .0 .1 .0 ≤ start-of c .args .room)
   fits c = subst (Fit _ _) (c .before .c .given .1) (c .before .before .before .before .work-out .ensures .fit)

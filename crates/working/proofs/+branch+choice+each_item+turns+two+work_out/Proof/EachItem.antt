@@ -12,7 +12,7 @@ use Rattle.working.proofs.work_out.Reads as work-out
 use Rattle.working.proofs.turns.Reads as turns
 use Rattle.working.proofs.+branch+choice+each_item+turns+two+work_out.Lts-each_item as each-item-lts
 use Rattle.query_walks.proofs.skip.Reads as skip-reads
-use Rattle.stack.proofs.keep.Reads as keep-reads
+use Rattle.stack.proofs.drop_first.Reads as drop-first-reads
 use Rattle.working.proofs.+branch+choice+each_item+turns+two+work_out.Proof.Measures.{each-item-at}
 use Rattle.working.proofs.+branch+choice+each_item+turns+two+work_out.Proof.Measures.{work-out-below}
 use Rattle.working.proofs.+branch+choice+each_item+turns+two+work_out.Proof.Measures.{turns-below}
@@ -25,21 +25,21 @@ each-item-callees t = (
   skip-reads.Learnt,
   turns-below t,
   turns.Post,
-  keep-reads.Asked,
-  keep-reads.Learnt,
+  drop-first-reads.Asked,
+  drop-first-reads.Learnt,
 )
 
 module _ (t : ℕ) where
   -- where a is told, and where the function starts
-  abbrev Told : Type 0
-  Told = each-item-lts.After-known-told (each-item-callees t) (each-item-at t) each-item.Post
+  abbrev AfterTold : Type 0
+  AfterTold = each-item-lts.After-known-told (each-item-callees t) (each-item-at t) each-item.Post
 
-  abbrev start-of : Told → each-item-lts.Start (each-item-callees t) (each-item-at t) each-item.Post
+  abbrev start-of : AfterTold → each-item-lts.Start (each-item-callees t) (each-item-at t) each-item.Post
   start-of c = c .before .before .before .before .before .before .before .before
 
   -- a's items stand within the room
   fits :
-      (c : Told) →
+      (c : AfterTold) →
       (c .before .a .given .0 .0 ≤ c .before .a .given .0 .1 .0)
       × (start-of c .args .top + c .before .a .given .0 .1 .0 ≤ start-of c .args .room)
   fits c = subst (Fit _ _) (c .before .a .given .1) (c .before .before .before .before .work-out .ensures .fit)
@@ -76,8 +76,8 @@ module _ (t : ℕ) where
         (p .1 .0, p .1 .1, record { low = p .1 .2 .low; lent = omega (arith, k, p .1 .2 .lent) }, p .1 .3, f .0, f .1),
       )
 
-  pub keep-requires : each-item-lts.Need-keep-requires (each-item-callees t) (each-item-at t) each-item.Post
-  keep-requires c κs =
+  pub drop-first-requires : each-item-lts.Need-drop-first-requires (each-item-callees t) (each-item-at t) each-item.Post
+  drop-first-requires c κs =
       let at-turns = c .before .before in
       let at-work-out = at-turns .before .before .before .before .before .before .before in
       let start = at-work-out .before .before .before .before in
@@ -92,8 +92,8 @@ module _ (t : ℕ) where
 
   pub returns-2 : each-item-lts.Need-returns-2 (each-item-callees t) (each-item-at t) each-item.Post
   returns-2 c =
-      let at-keep = c .before in
-      let at-turns = at-keep .before .before .before in
+      let at-drop-first = c .before in
+      let at-turns = at-drop-first .before .before .before in
       let at-skip = at-turns .before .before in
       let at-a = at-skip .before .before in
       let at-work-out = at-a .before .before .before in
@@ -103,4 +103,4 @@ module _ (t : ℕ) where
       let u = at-turns .turns in
       λ place. for-turned _ _ place _ _ _ _ _ _ _ _ _ _ _ _ _ _ _ _ (at-a .a .given .1) (p .1 .1)
       (omega (arith, w .kept .1 .1 .1 .1 .1 .1 .0, p .1 .2 .lent)) (w .ensures) (at-skip .skip .ensures) (u .ensures)
-      (at-keep .keep .ensures _ (u .ensures .fit))
+      (at-drop-first .drop-first .ensures _ (u .ensures .fit))

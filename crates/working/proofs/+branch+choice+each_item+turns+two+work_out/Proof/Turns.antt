@@ -41,18 +41,18 @@ turns-μ-loop query doc rows scope v n count body next depth work₀ top room ba
 
 module _ (t : ℕ) where
   -- where a turn's results are known, and where the function starts
-  abbrev Turned : Type 0
-  Turned = turns-lts.After-known-told (turns-callees t) (turns-at t) turns.Post turns-Inv-loop turns-μ-loop
+  abbrev AfterTold : Type 0
+  AfterTold = turns-lts.After-known-told (turns-callees t) (turns-at t) turns.Post turns-Inv-loop turns-μ-loop
 
-  abbrev start : Turned → turns-lts.Start (turns-callees t) (turns-at t) turns.Post turns-Inv-loop turns-μ-loop
+  abbrev start : AfterTold → turns-lts.Start (turns-callees t) (turns-at t) turns.Post turns-Inv-loop turns-μ-loop
   start c = c .before .before .before .before .before .before .before .before .before .before .before
 
-  abbrev loop-of : Turned → turns-lts.At-loop (turns-callees t) (turns-at t) turns.Post turns-Inv-loop turns-μ-loop
+  abbrev loop-of : AfterTold → turns-lts.At-loop (turns-callees t) (turns-at t) turns.Post turns-Inv-loop turns-μ-loop
   loop-of c = c .before .before .before .before .before .before .before .before
 
   -- the results of a turn stand within the room
   turn-fits :
-      (c : Turned) →
+      (c : AfterTold) →
       (c .before .turn .given .0 .0 ≤ c .before .turn .given .0 .1 .0)
       × (start c .args .top + start c .args .n +
       loop-of c .loop .done + c .before .turn .given .0 .1 .0

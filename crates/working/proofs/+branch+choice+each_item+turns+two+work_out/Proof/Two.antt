@@ -26,15 +26,15 @@ two-callees t = (
 
 module _ (t : ℕ) where
   -- where the first operand is told, and where the function starts
-  abbrev Told : Type 0
-  Told = two-lts.After-known-told (two-callees t) (two-at t) two.Post
+  abbrev AfterTold : Type 0
+  AfterTold = two-lts.After-known-told (two-callees t) (two-at t) two.Post
 
-  abbrev start-of : Told → two-lts.Start (two-callees t) (two-at t) two.Post
+  abbrev start-of : AfterTold → two-lts.Start (two-callees t) (two-at t) two.Post
   start-of c = c .before .before .before .before .before .before .before .before
 
   -- the first operand's items stand within the room
   fits :
-      (c : Told) →
+      (c : AfterTold) →
       (c .before .first .given .0 .0 ≤ c .before .first .given .0 .1 .0)
       × (start-of c .args .top + c .before .first .given .0 .1 .0 ≤ start-of c .args .room)
   fits c = subst (Fit _ _) (c .before .first .given .1) (c .before .before .before .before .work-out .ensures .fit)

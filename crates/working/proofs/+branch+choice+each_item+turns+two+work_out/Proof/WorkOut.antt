@@ -31,7 +31,7 @@ use Rattle.stack.proofs.put.Reads as put-reads
 use Rattle.stack.proofs.root.Reads as root-reads
 use Rattle.working.proofs.variable.Reads as variable-reads
 use Rattle.stack.proofs.join.Reads as join-reads
-use Rattle.stack.proofs.keep.Reads as keep-reads
+use Rattle.stack.proofs.drop_first.Reads as drop-first-reads
 use Rattle.stack.proofs.apply.Reads as apply-reads
 use Rattle.stack.proofs.number.Reads as number-reads
 use Rattle.stack.proofs.values.Reads as values-reads
@@ -57,8 +57,8 @@ work-out-callees t = (
   two.Post,
   join-reads.Asked,
   join-reads.Learnt,
-  keep-reads.Asked,
-  keep-reads.Learnt,
+  drop-first-reads.Asked,
+  drop-first-reads.Learnt,
   each-item-below t,
   each-item.Post,
   choice-below t,
@@ -77,27 +77,27 @@ work-out-callees t = (
 
 module _ (t : ℕ) where
   -- where the record is known
-  abbrev Found : Type 0
-  Found = work-out-lts.After-known-told (work-out-callees t) (work-out-at t) work-out.Post
+  abbrev AfterTold : Type 0
+  AfterTold = work-out-lts.After-known-told (work-out-callees t) (work-out-at t) work-out.Post
 
-  abbrev start : Found → work-out-lts.Start (work-out-callees t) (work-out-at t) work-out.Post
+  abbrev start : AfterTold → work-out-lts.Start (work-out-callees t) (work-out-at t) work-out.Post
   start c = c .before .before .before .before .before .before .before
 
-  abbrev kind : Found → Record
+  abbrev kind : AfterTold → Record
   kind c = c .before .reading .given .0 .0 .kind
 
   -- one level less is left
-  less : (c : Found) → 3 * (start c .args .depth - 1) + 2 < t
+  less : (c : AfterTold) → 3 * (start c .args .depth - 1) + 2 < t
   less c = omega (arith, start c .pre .0, c .before .before .before .before .if1 .left)
 
-  small : (c : Found) → SmallLiteral (kind c)
+  small : (c : AfterTold) → SmallLiteral (kind c)
   small c =
       let a = start c .args in
       let r = c .before .before .before .read in
       let f = c .before .reading .given in
       found-small (a .query .now) (a .at) (r .result) (r .ensures) (f .0 .0) (f .1)
 
-  ranged : (c : Found) (k : Record) → kind c ≡ k → Ranged (recordOf k)
+  ranged : (c : AfterTold) (k : Record) → kind c ≡ k → Ranged (recordOf k)
   ranged c k e =
       let a = start c .args in
       let r = c .before .before .before .read in
@@ -112,7 +112,7 @@ module _ (t : ℕ) where
 
   -- the tree at the offset, by its record
   tree :
-      (c : Found) (k : Record) → kind c ≡ k →
+      (c : AfterTold) (k : Record) → kind c ≡ k →
       parse (start c .args .depth) (start c .args .query .now) (start c .args .at)
       ≡ trees (parse (start c .args .depth - 1) (start c .args .query .now))
       (start c .args .at) (c .before .reading .given .0 .0 .next) (recordOf k)
@@ -223,8 +223,8 @@ module _ (t : ℕ) where
       let p = start-of .pre in
       (omega (arith, less found), (p .1 .0, p .1 .1, p .1 .2, ranged found _ (at-kind4 .kind4 .given .1)))
 
-  pub keep-requires : work-out-lts.Need-keep-requires (work-out-callees t) (work-out-at t) work-out.Post
-  keep-requires c κs =
+  pub drop-first-requires : work-out-lts.Need-drop-first-requires (work-out-callees t) (work-out-at t) work-out.Post
+  drop-first-requires c κs =
       let at-two2 = c .before .before in
       let start-of = start (at-two2 .before .before .before .before .before) in
       let s = start-of in
@@ -401,14 +401,14 @@ module _ (t : ℕ) where
   pub returns-8 : work-out-lts.Need-returns-8 (work-out-callees t) (work-out-at t) work-out.Post
   unfolding trees recordOf
   returns-8 c =
-      let at-keep = c .before in
-      let at-two2 = at-keep .before .before .before in
+      let at-drop-first = c .before in
+      let at-two2 = at-drop-first .before .before .before in
       let at-kind4 = at-two2 .before .before .before in
       let found = at-kind4 .before .before in
       let u = at-two2 .two2 in
       works-two _ _ _ _ _ _ _ _ _ _ (QT _ _) _ _ _ kept (tree found _ (at-kind4 .kind4 .given .1))
       (λ e p q. keep-is _ _ _ e _ p q) (u .ensures)
-      (at-keep .keep .ensures _ (u .ensures .fit))
+      (at-drop-first .drop-first .ensures _ (u .ensures .fit))
 
   pub same-length-6 : work-out-lts.Need-same-length-6 (work-out-callees t) (work-out-at t) work-out.Post
   same-length-6 c = search needs

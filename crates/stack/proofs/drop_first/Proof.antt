@@ -1,4 +1,4 @@
--- `keep` meets its contract: an operand that is refused is handed on; else b's items move down over a's.
+-- `drop-first` meets its contract: an operand that is refused is handed on; else b's items move down over a's.
 use Prim.Native.Nat.{_+_, _≤_}
 use mathlib.Core.Path.{_≡_, refl, sym, subst}
 use mathlib.Core.Logic.{inl}
@@ -10,8 +10,8 @@ use Rattle.stack.specs.Stack.{FitPair}
 use Rattle.stack.specs.Arms.{kept}
 use Rattle.stack.proofs.Leaving.{leaves-pair, leaves-as, leaves-laid, pair-stopped, fit-sums}
 use borrow.Author.Needs.{needs}
-use Rattle.stack.proofs.keep.Statement.{statement}
-use Rattle.stack.proofs.keep.Tie as tie
+use Rattle.stack.proofs.drop_first.Statement.{statement}
+use Rattle.stack.proofs.drop_first.Tie as tie
 
 -- the items of both operands stand within the cells
 fit :
@@ -59,7 +59,7 @@ returns-2 c = λ room f.
     (leaves-laid _ _ _ _ _ _ _ _ _ (c .before .copy .ensures) (omega (arith, s, h .0, h .1)) s (omega (arith, g .0))
     (g .1) (λ e d. d))
 
-pub keep-spec : {M : Type 1} → statement M
-keep-spec =
+pub drop-first-spec : {M : Type 1} → statement M
+drop-first-spec =
     tie.close
     (tie.spec enum-known-pair join-requires returns add-copy copy-requires same-length returns-2)

@@ -1,5 +1,5 @@
--- `lines::keep` meets its contract. The invariant: the items of the first i rows are copied. The measure is how many
--- rows are left.
+-- `lines::copy_items` meets its contract. The invariant: the items of the first i rows are copied. The measure is how
+-- many rows are left.
 use Prim.Native.Nat.{_-_, _≤_}
 use mathlib.Core.Path.{_≡_, refl}
 use native.Mathlib.Omega.{arith}
@@ -8,8 +8,8 @@ use mir.Facts.{toZ-ofZ}
 use Rattle.laws.specs.Rows.{rowsAt, laid}
 use Rattle.meaning.specs.Operators.{column}
 use Rattle.lines.proofs.Kept.{kept-none, kept-more}
-use Rattle.lines.proofs.keep.Statement.{statement}
-use Rattle.lines.proofs.keep.Tie as tie
+use Rattle.lines.proofs.copy_items.Statement.{statement}
+use Rattle.lines.proofs.copy_items.Tie as tie
 
 abbrev Inv-loop : tie.InvT-loop
 Inv-loop work start rows kept₀ i₀ kept i =
@@ -69,8 +69,8 @@ returns c =
     let e : c .before .loop .i ≡ c .before .before .args .rows = omega arith in
     rw e at (c .before .loop .inv .1)
 
-pub keep-spec : {M : Type 1} → statement M
-keep-spec =
+pub copy-items-spec : {M : Type 1} → statement M
+copy-items-spec =
     tie.close
     (tie.spec
     Inv-loop
