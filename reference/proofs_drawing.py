@@ -52,7 +52,7 @@ GROUPS = [
     Group("items, steps, the stack", "code", "items nodesets axes lent stack", "specs", ()),
     Group("the operators", "code", "tables rows rowwise whole joining sorting numbering members stepping groups", "specs",
           (("Owes", "one promise for each operator"),)),
-    Group("the translator", "code", "writing adding rules scopes translating translator", "specs",
+    Group("the translator", "code", "pen writing adding rules scopes translating translator", "specs",
           (("answered", "its contract: translateCall"),)),
     Group("the evaluator", "code", "working evaluator", "specs", (("answered", "its contract: evaluateCall"),)),
     Group("the runner", "code", "directory operators running runner", "specs", (("answered", "its contract: runCall"),)),

@@ -1,4 +1,4 @@
--- `drop-first` meets its contract: an operand that is refused is handed on; else b's items move down over a's.
+-- `drop_first` meets its contract: an operand that is refused is handed on; else b's items move down over a's.
 use Prim.Native.Nat.{_+_, _≤_}
 use mathlib.Core.Path.{_≡_, refl, sym, subst}
 use mathlib.Core.Logic.{inl}
