@@ -30,8 +30,8 @@ use Rattle.query_records.specs.declared.Reading.the-variants as Found
 use Rattle.query_records.specs.declared.Decoded.{Decoded}
 use Rattle.query_records.specs.declared.Operands.{Operands}
 use Rattle.queries.specs.declared.Checked.the-variants as Checked
-use Rattle.queries.specs.declared.Walked.{Walked}
-use Rattle.queries.specs.declared.Walked.the-variants as Walked
+use Rattle.queries.specs.declared.Checking.{Checking}
+use Rattle.queries.specs.declared.Checking.the-variants as Checking
 use Rattle.query_records.specs.Decoded as Code
 use Rattle.query_records.specs.Decoded.{readingOf, operandsOf}
 use Rattle.queries.specs.Answers.{answered, walked}
@@ -39,7 +39,7 @@ use Rattle.queries.specs.Walk.{Passing, Walker, passes, two, three, step
 use Rattle.query_records.proofs.Outcomes.{refusing-apart}
 use Rattle.query_records.proofs.Fields.{record-sound}
 use Rattle.query_records.specs.Fields.{Ranged}
-use Rattle.queries.proofs.Walked.{the-type}
+use Rattle.queries.proofs.Checking.{the-type}
 
 -- Readings
 
@@ -231,18 +231,18 @@ module _ (bs : List ℕ) (at : ℕ) (r : Found) (e : readingOf r ≡ recordOf bs
 
 -- What follows a walk
 
-module _ (w : Walked) (a : Passing) (f : ℕ × ℕ → Passing) (e : walked w ≡ a) where
+module _ (w : Checking) (a : Passing) (f : ℕ × ℕ → Passing) (e : walked w ≡ a) where
   pub walk-stopped : OneOf (1 ∷ 2 ∷ 3 ∷ []) (tagOf the-type w) → walked w ≡ reading a f
   unfolding walked reading
   walk-stopped h = go w h ∙ ap (λ (x : Passing). reading x f) e
     where
-      go : (w : Walked) → OneOf (1 ∷ 2 ∷ 3 ∷ []) (tagOf the-type w) → walked w ≡ reading (walked w) f
-      go (Walked.Passed next n) h = absurd (miss (1 ∷ 2 ∷ 3 ∷ []) 0 tt h)
-      go (Walked.Unsound p) h = refl
-      go (Walked.Excess p) h = refl
-      go (Walked.Unbound p) h = refl
+      go : (w : Checking) → OneOf (1 ∷ 2 ∷ 3 ∷ []) (tagOf the-type w) → walked w ≡ reading (walked w) f
+      go (Checking.Passed next n) h = absurd (miss (1 ∷ 2 ∷ 3 ∷ []) 0 tt h)
+      go (Checking.Unsound p) h = refl
+      go (Checking.Excess p) h = refl
+      go (Checking.Unbound p) h = refl
 
-  pub walk-passed : (next n : ℕ) → w ≡ Walked.Passed next n → f (next, n) ≡ reading a f
+  pub walk-passed : (next n : ℕ) → w ≡ Checking.Passed next n → f (next, n) ≡ reading a f
   unfolding walked reading
   walk-passed next n h = ap (λ (x : Passing). reading x f) (sym (ap walked h) ∙ e)
 
@@ -266,7 +266,7 @@ read-ended l (reads r) = go (eqb (r .next) l)
     go true = refl
     go false = refl
 
-module _ (bs : List ℕ) (w : Walked) (e : walked w ≡ walk 32 bs (replicate 8 false) 0 0) where
+module _ (bs : List ℕ) (w : Checking) (e : walked w ≡ walk 32 bs (replicate 8 false) 0 0) where
   call-ended : queryCall bs ≡ ended (length bs) (walked w)
   unfolding queryCall queryRead
   call-ended =
@@ -277,13 +277,13 @@ module _ (bs : List ℕ) (w : Walked) (e : walked w ≡ walk 32 bs (replicate 8 
   unfolding walked answerOf ended
   call-stopped h = go w h ∙ sym call-ended
     where
-      go : (w : Walked) → OneOf (1 ∷ 2 ∷ 3 ∷ []) (tagOf the-type w) → answerOf (walked w) ≡ ended (length bs) (walked w)
-      go (Walked.Passed next n) h = absurd (miss (1 ∷ 2 ∷ 3 ∷ []) 0 tt h)
-      go (Walked.Unsound p) h = refl
-      go (Walked.Excess p) h = refl
-      go (Walked.Unbound p) h = refl
+      go : (w : Checking) → OneOf (1 ∷ 2 ∷ 3 ∷ []) (tagOf the-type w) → answerOf (walked w) ≡ ended (length bs) (walked w)
+      go (Checking.Passed next n) h = absurd (miss (1 ∷ 2 ∷ 3 ∷ []) 0 tt h)
+      go (Checking.Unsound p) h = refl
+      go (Checking.Excess p) h = refl
+      go (Checking.Unbound p) h = refl
 
-  module _ (next n : ℕ) (p : w ≡ Walked.Passed next n) where
+  module _ (next n : ℕ) (p : w ≡ Checking.Passed next n) where
     pub call-whole : next ≡ length bs → answered (Checked.Records n) ≡ queryCall bs
     unfolding walked answered ended
     call-whole h = rw (call-ended, p, h, eq-eqb (length bs) (length bs) refl)

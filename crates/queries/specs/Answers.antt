@@ -7,8 +7,8 @@ use Rattle.laws.specs.Attempt.{Reading, refuses, reads}
 use Rattle.meaning.specs.Calls.{Answer, refused}
 use Rattle.queries.specs.declared.Checked.{Checked}
 use Rattle.queries.specs.declared.Checked.the-variants as Checked
-use Rattle.queries.specs.declared.Walked.{Walked}
-use Rattle.queries.specs.declared.Walked.the-variants as Walked
+use Rattle.queries.specs.declared.Checking.{Checking}
+use Rattle.queries.specs.declared.Checking.the-variants as Checking
 
 unfoldable pub answered : Checked → Answer
 answered (Checked.Records n) = Answer.gives (n ∷ [])
@@ -16,8 +16,8 @@ answered (Checked.Unsound p) = refused 1 p
 answered (Checked.Excess p) = refused 2 p
 answered (Checked.Unbound p) = refused 3 p
 
-unfoldable pub walked : Walked → Reading (ℕ × ℕ)
-walked (Walked.Passed next n) = reads (next, n)
-walked (Walked.Unsound p) = refuses 1 p
-walked (Walked.Excess p) = refuses 2 p
-walked (Walked.Unbound p) = refuses 3 p
+unfoldable pub walked : Checking → Reading (ℕ × ℕ)
+walked (Checking.Passed next n) = reads (next, n)
+walked (Checking.Unsound p) = refuses 1 p
+walked (Checking.Excess p) = refuses 2 p
+walked (Checking.Unbound p) = refuses 3 p

@@ -24,7 +24,7 @@ pub enum Checked {
 }
 
 // How far the query check came: past an operand, at an offset, after so many records; or where it stopped.
-enum Walked {
+enum Checking {
     Passed(usize, usize),
     Unsound(usize),
     Excess(usize),
@@ -32,36 +32,36 @@ enum Walked {
 }
 
 // A variable at an offset, n records with it.
-fn lookup(flags: [bool; 8], v: usize, at: usize, next: usize, n: usize) -> Walked
+fn lookup(flags: [bool; 8], v: usize, at: usize, next: usize, n: usize) -> Checking
     ensures { λ r. ⌜ walked r ≡ unless (getD flags v false) 3 at (reads (next, n)) ⌝ }
 {
     if flag(flags, v) {
-        Walked::Passed(next, n)
+        Checking::Passed(next, n)
     } else {
-        Walked::Unbound(at)
+        Checking::Unbound(at)
     }
 }
 
 // The query at an offset: depth more levels are allowed, n records stand before it, and flags says which variables
 // are bound.
-fn operand(query: &[u8], at: usize, depth: usize, n: usize, flags: [bool; 8]) -> Walked
+fn operand(query: &[u8], at: usize, depth: usize, n: usize, flags: [bool; 8]) -> Checking
     ensures { λ r. ⌜ walked r ≡ walk depth (now (query .entry)) flags n at ⌝ }
 {
     let Reading::Sound(found) = read(query, at) else {
-        return Walked::Unsound(at);
+        return Checking::Unsound(at);
     };
     if depth == 0 {
-        return Walked::Excess(at);
+        return Checking::Excess(at);
     }
     if RECORDS <= n {
-        return Walked::Excess(at);
+        return Checking::Excess(at);
     }
     let kind = found.kind;
     let next = found.next;
     let left = depth - 1;
     let m = n + 1;
     match following(kind) {
-        Operands::None => Walked::Passed(next, m),
+        Operands::None => Checking::Passed(next, m),
         Operands::Variable(v) => lookup(flags, v, at, next, m),
         Operands::One => operand(query, next, left, m, flags),
         Operands::Two => two_operands(query, next, left, m, flags, flags),
@@ -81,35 +81,35 @@ fn two_operands(
     n: usize,
     outer: [bool; 8],
     inner: [bool; 8],
-) -> Walked
+) -> Checking
     ensures { λ r. ⌜ walked r ≡ two (walk depth (now (query .entry))) outer inner n at ⌝ }
 {
     let first = operand(query, at, depth, n, outer);
-    let Walked::Passed(next, passed) = first else {
+    let Checking::Passed(next, passed) = first else {
         return first;
     };
     operand(query, next, depth, passed, inner)
 }
 
-fn three_operands(query: &[u8], at: usize, depth: usize, n: usize, flags: [bool; 8]) -> Walked
+fn three_operands(query: &[u8], at: usize, depth: usize, n: usize, flags: [bool; 8]) -> Checking
     ensures { λ r. ⌜ walked r ≡ three (walk depth (now (query .entry))) flags n at ⌝ }
 {
     let first = operand(query, at, depth, n, flags);
-    let Walked::Passed(next, passed) = first else {
+    let Checking::Passed(next, passed) = first else {
         return first;
     };
     two_operands(query, next, depth, passed, flags, flags)
 }
 
 // The answer where nothing follows.
-fn concluded(walk: Walked) -> Checked
+fn concluded(walk: Checking) -> Checked
     ensures { λ r. ⌜ answered r ≡ answerOf (walked walk) ⌝ }
 {
     match walk {
-        Walked::Passed(_, n) => Checked::Records(n),
-        Walked::Unsound(place) => Checked::Unsound(place),
-        Walked::Excess(place) => Checked::Excess(place),
-        Walked::Unbound(place) => Checked::Unbound(place),
+        Checking::Passed(_, n) => Checked::Records(n),
+        Checking::Unsound(place) => Checked::Unsound(place),
+        Checking::Excess(place) => Checked::Excess(place),
+        Checking::Unbound(place) => Checked::Unbound(place),
     }
 }
 
@@ -118,7 +118,7 @@ pub fn check(query: &[u8]) -> Checked
     ensures { λ r. ⌜ answered r ≡ queryCall (now (query .entry)) ⌝ }
 {
     let whole = operand(query, 0, LEVELS, 0, [false; 8]);
-    let Walked::Passed(next, n) = whole else {
+    let Checking::Passed(next, n) = whole else {
         return concluded(whole);
     };
     if next == query.len() {

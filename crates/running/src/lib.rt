@@ -134,7 +134,7 @@ fn walk(
     let mut tables: usize = 0;
     let mut filled: usize = 0;
     while at < plan.len() {
-        let Reading::SoundOperator(found) = plan_records::read(plan, at) else {
+        let Reading::Sound(found) = plan_records::read(plan, at) else {
             // never: an accepted plan has a sound record at each offset before its end
             return Walked::Fails(at);
         };

@@ -7,19 +7,13 @@ use cells::byte;
 use cells::fits;
 use cells::int8;
 use cells::word2;
+use codes::marks::RA;
+use codes::marks::RD;
+use codes::marks::RJ;
+use codes::marks::RU;
+use codes::marks::RX;
 use plan_records::Reading;
 use plans::widths::Width;
-
-// The marks of the records that have other fields than a table and then bytes.
-const RA: usize = 0x5241;
-
-const RU: usize = 0x5255;
-
-const RD: usize = 0x5244;
-
-const RJ: usize = 0x524A;
-
-const RX: usize = 0x5258;
 
 // What stands at an offset: a record and the offset after it, with the width of its table; a record that does
 // not suit the tables before it; or no record.
