@@ -1,11 +1,10 @@
 -- `rows_sound` meets its contract. The invariant of its loop: the rows before r passed, so that the checks from r on,
--- of
--- as many rows as may still be there, give what the whole gives. The measure is how many rows may still be there.
+-- of as many rows as may still be there, give what the whole gives. The measure is how many rows may still be there.
 use Prim.Native.Nat.{ℕ, _≤_, _+_, _*_, _-_}
 use native.Mathlib.Omega.{arith}
 use mathlib.Core.Bool.{true}
 use mathlib.Core.List.{List}
-use mathlib.Core.Path.{_≡_, refl, sym, ap, _∙_}
+use mathlib.Core.Path.{_≡_, refl, ap, _∙_}
 use lib.ListN.{length}
 use borrow.Author.Needs.{needs}
 use Rattle.meaning.specs.Catalogue.{catalogueOf, rowSound, rowsSound}
