@@ -277,7 +277,8 @@ module _ (bs : List ℕ) (w : Checking) (e : walked w ≡ walk 32 bs (replicate 
   unfolding walked answerOf ended
   call-stopped h = go w h ∙ sym call-ended
     where
-      go : (w : Checking) → OneOf (1 ∷ 2 ∷ 3 ∷ []) (tagOf the-type w) → answerOf (walked w) ≡ ended (length bs) (walked w)
+      go : (w : Checking) → OneOf (1 ∷ 2 ∷ 3 ∷ []) (tagOf the-type w) →
+          answerOf (walked w) ≡ ended (length bs) (walked w)
       go (Checking.Passed next n) h = absurd (miss (1 ∷ 2 ∷ 3 ∷ []) 0 tt h)
       go (Checking.Unsound p) h = refl
       go (Checking.Excess p) h = refl
