@@ -56,7 +56,7 @@ GROUPS = [
           (("answered", "its contract: translateCall"),)),
     Group("the evaluator", "code", "working evaluator", "specs", (("answered", "its contract: evaluateCall"),)),
     Group("the runner", "code", "directory operators running runner", "specs", (("answered", "its contract: runCall"),)),
-    Group("the printed text", "programs", "lines printing chartask cases views showing", "specs",
+    Group("the printed text", "programs", "lines answers printing chartask cases views showing", "specs",
           (("printed", "the lines of chartask, proved"),)),
     Group("stored cases: run and compared, not proved", "programs",
           "stored", "", ()),

@@ -35,8 +35,8 @@ use Rattle.lines.specs.declared.Told.{Told}
 use Rattle.lines.specs.Text.{refusedWith}
 use Rattle.lines.specs.Printed.{valueOf, toldBy}
 use Rattle.lines.specs.Placed.{GaveStands, roomFor}
-use Rattle.printing.specs.Engines.{second, Within}
-use Rattle.printing.proofs.Keeping.{rows-stand, rows-room}
+use Rattle.answers.specs.Second.{second, Within}
+use Rattle.answers.proofs.Keeping.{rows-stand, rows-room}
 
 -- The runner
 

@@ -30,10 +30,11 @@ use Rattle.lines.specs.Printed.{valueOf, toldBy, runItems, printed}
 use Rattle.lines.specs.Placed.{Put}
 use Rattle.lines.proofs.Lines.{text-room}
 use Rattle.lines.proofs.Putting.{put-is, put-text, put-length}
-use Rattle.printing.specs.Engines.{engines, second, planned, planRun, TextEnds, TellsText}
+use Rattle.printing.specs.Engines.{engines, planned, planRun, TextEnds, TellsText}
+use Rattle.answers.specs.Second.{second}
 use Rattle.printing.proofs.NeverNo.{never-no}
 use Rattle.printing.proofs.Fitting.{plan-within}
-use Rattle.printing.proofs.Keeping.{itemsOf, text-kept}
+use Rattle.answers.proofs.Keeping.{itemsOf, text-kept}
 
 -- where the runner answered 6 the evaluator is not asked, and the text is the same
 second-text : (t : Told) (a : Answer) (cells xs : List ℤ) (query doc : List ℕ) → length cells ≡ 8192

@@ -1,4 +1,3 @@
-pub mod Keeping
 pub mod Fitting
 pub mod NeverNo
 pub mod Joined

@@ -2,36 +2,28 @@
 -- `chartask`').
 --     engines t query plan doc     the text, where the translator told t: the plan goes to the runner, the query to the
 --                                  evaluator
---     second a cells query doc     what the evaluator answers and leaves, where the runner answered a and left cells;
---                                  after 6
---                                  it is not asked, and the runner's answer and cells stand for its own
 --     planned a x y                x where the translator gave a plan, y where it refused
 --     planRun query doc            the run of the query's plan
---     Within a lent                the rows of the last table stand in the lent cells
 --     TextEnds ..                  what both engines' text, cells and kept items are at the end
 --     TellsText ..                 what `tell` leaves: the text and its end, and every byte and cell that was lent
-use Prim.Native.Nat.{ℕ, _+_, _*_, _≤_}
+use Prim.Native.Nat.{ℕ, _≤_}
 use mathlib.Core.Path.{_≡_}
 use mathlib.Core.List.{List}
-use mathlib.Core.Bool.{cond}
 use lib.IntN.{ℤ}
 use lib.ListN.{length, take}
 use Rattle.laws.specs.Rows.{laid}
 use Rattle.meaning.specs.Calls.{Answer, gives, refused, Outcome, translateCall, runCall, evaluateCall}
 use Rattle.lines.specs.declared.Told.{Told}
-use Rattle.lines.specs.Text.{Text, refusedWith, text, sameNo, Nowhere}
+use Rattle.lines.specs.Text.{Text, text, sameNo, Nowhere}
 use Rattle.lines.specs.Printed.{valueOf, toldBy, runItems, printed}
 use Rattle.lines.specs.Placed.{Put}
+use Rattle.answers.specs.Second.{second}
 
 unfoldable pub engines : Told → List ℕ → List ℕ → List ℕ → Text
 engines t query plan doc =
     let r = runCall plan doc 8192 in
     let e = evaluateCall query doc 8192 in
     text t (toldBy 1 (r .answer)) (runItems r) (toldBy 0 (e .answer)) (e .left)
-
-unfoldable pub second : Answer → List ℤ → List ℕ → List ℕ → Outcome ℤ
-second a cells query doc =
-    cond (refusedWith 6 (toldBy 1 a)) (record { answer = a; left = cells }) (evaluateCall query doc (length cells))
 
 unfoldable pub planned : {A : Type 0} → Answer → A → A → A
 planned (gives ns) x y = x
@@ -40,9 +32,6 @@ planned (refused n p) x y = y
 abbrev pub planRun : List ℕ → List ℕ → Outcome ℤ
 planRun query doc =
     runCall (take (valueOf 1 (translateCall query 6144 .answer)) (translateCall query 6144 .left)) doc 8192
-
-abbrev pub Within : Answer → ℕ → Type 0
-Within a lent = valueOf 0 a + valueOf 1 a * 3 ≤ lent
 
 -- primed: at exit
 pub record TextEnds (t : Told) (query plan doc : List ℕ) (kept kept′ work′ : List ℤ) (text text′ : List ℕ)

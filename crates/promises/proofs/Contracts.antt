@@ -26,7 +26,8 @@ use Rattle.evaluator.specs.Answers as Evaluator
 use Rattle.evaluator.proofs.Decided as EvaluatorDecided
 use Rattle.lines.specs.Text.{sameNo, Nowhere}
 use Rattle.lines.specs.Printed.{runItems, printed}
-use Rattle.printing.specs.Engines.{second, planned, planRun}
+use Rattle.printing.specs.Engines.{planned, planRun}
+use Rattle.answers.specs.Second.{second}
 use Rattle.promises.specs.Contracts.{TellAllows}
 use Rattle.promises.specs.Promises.{Contracts, Decides, Demand3InHand}
 

@@ -4,8 +4,8 @@ use Rattle.lines.specs.Printed.{toldBy}
 use Rattle.translator.specs.Answers.{answered}
 use Rattle.translator.specs.declared.Translated.{Translated}
 use borrow.Author.Needs.{needs}
-use Rattle.printing.proofs.plan_told.Statement.{statement}
-use Rattle.printing.proofs.plan_told.Tie as tie
+use Rattle.answers.proofs.plan_told.Statement.{statement}
+use Rattle.answers.proofs.plan_told.Tie as tie
 
 enum-known-translated : tie.Need-enum-known-translated
 enum-known-translated c = search needs

@@ -1,8 +1,8 @@
 -- `second_told` meets its contract: after 6 the evaluator is not asked, else its answer and cells.
-use Rattle.printing.proofs.Keeping.{not-asked, asked}
+use Rattle.answers.proofs.Keeping.{not-asked, asked}
 use borrow.Author.Needs.{needs}
-use Rattle.printing.proofs.second_told.Statement.{statement}
-use Rattle.printing.proofs.second_told.Tie as tie
+use Rattle.answers.proofs.second_told.Statement.{statement}
+use Rattle.answers.proofs.second_told.Tie as tie
 
 enum-known-ran : tie.Need-enum-known-ran
 enum-known-ran c = search needs

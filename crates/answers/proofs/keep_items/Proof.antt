@@ -1,8 +1,8 @@
 -- `keep_items` meets its contract: the last table's items, or none after a refusal.
-use Rattle.printing.proofs.Keeping.{kept-none, kept-fits, kept-tables}
+use Rattle.answers.proofs.Keeping.{kept-none, kept-fits, kept-tables}
 use borrow.Author.Needs.{needs}
-use Rattle.printing.proofs.keep_items.Statement.{statement}
-use Rattle.printing.proofs.keep_items.Tie as tie
+use Rattle.answers.proofs.keep_items.Statement.{statement}
+use Rattle.answers.proofs.keep_items.Tie as tie
 
 enum-known-ran : tie.Need-enum-known-ran
 enum-known-ran c = search needs

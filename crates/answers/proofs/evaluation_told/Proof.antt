@@ -4,8 +4,8 @@ use Rattle.lines.specs.Printed.{toldBy}
 use Rattle.evaluator.specs.Answers.{answered}
 use Rattle.evaluator.specs.declared.Evaluated.{Evaluated}
 use borrow.Author.Needs.{needs}
-use Rattle.printing.proofs.evaluation_told.Statement.{statement}
-use Rattle.printing.proofs.evaluation_told.Tie as tie
+use Rattle.answers.proofs.evaluation_told.Statement.{statement}
+use Rattle.answers.proofs.evaluation_told.Tie as tie
 
 enum-known-evaluated : tie.Need-enum-known-evaluated
 enum-known-evaluated c = search needs

@@ -28,7 +28,7 @@ use Rattle.lines.specs.Text.{firstLines, refusedWith, agree, verdict, text}
 use Rattle.lines.specs.Printed.{valueOf, toldBy}
 use Rattle.lines.specs.Placed.{GaveStands, roomFor}
 use Rattle.lines.proofs.Kept.{length-column}
-use Rattle.printing.specs.Engines.{second, Within}
+use Rattle.answers.specs.Second.{second, Within}
 
 -- Keeping
 

@@ -4,8 +4,8 @@ use Rattle.lines.specs.Printed.{toldBy}
 use Rattle.runner.specs.Answers.{answered}
 use Rattle.runner.specs.declared.Ran.{Ran}
 use borrow.Author.Needs.{needs}
-use Rattle.printing.proofs.run_told.Statement.{statement}
-use Rattle.printing.proofs.run_told.Tie as tie
+use Rattle.answers.proofs.run_told.Statement.{statement}
+use Rattle.answers.proofs.run_told.Tie as tie
 
 enum-known-ran : tie.Need-enum-known-ran
 enum-known-ran c = search needs
