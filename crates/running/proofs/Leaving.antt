@@ -34,12 +34,13 @@ use Rattle.directory.specs.Sound.{madeWidth, SoundOperator}
 use Rattle.directory.proofs.Entries.{entry}
 use Rattle.directory.proofs.Cases.{turn-sound}
 use Rattle.operators.specs.declared.Top.{Top}
-use Rattle.running.specs.declared.Turned.{Turned}
-use Rattle.running.specs.declared.Turned.the-variants.{On, Full, Fails}
+use Rattle.laying.specs.declared.Turned.{Turned}
+use Rattle.laying.specs.declared.Turned.the-variants.{On, Full, Fails}
 use Rattle.running.specs.declared.Walked.{Walked}
 use Rattle.running.specs.declared.Walked.the-variants as Walked
-use Rattle.running.specs.Leaving.{Walks, Goes, refusedAt}
-use Rattle.running.proofs.Turned.{the-type}
+use Rattle.running.specs.Leaving.{Walks, refusedAt}
+use Rattle.laying.specs.Goes.{Goes}
+use Rattle.laying.proofs.Turned.{the-type}
 use Rattle.running.proofs.Going.{Going, as-many, turn-fails, turn-full, turn-more, going-end, last-stands}
 use Rattle.running.proofs.Going.{some-table, last-table}
 

@@ -1,21 +1,18 @@
 -- What the operators of a plan come to, and what they leave in the cells (document 01, 'Room').
---     TellsFilled f cells start rows filled   the tables f stand in the cells from 0 on and fill so many of them; the
---                                             last
---                            starts there and has so many rows
+--     TellsFilled f cells start rows filled     the tables f stand in the cells from 0 on and fill so many of them; the
+--                            last starts there and has so many rows
 --     Walks o cells r        r is the outcome o of the operators; where all are done, their tables stand in the cells
---     operatorsIn m               the operators that a reading gives; none where it refuses
+--     operatorsIn m          the operators that a reading gives; none where it refuses
 --     operatorsOf bs         the operators of a plan that is sound
 --     AcceptedPlan bs        it is
 --     carriedOut plan doc rows room      the outcome of the operators of a plan over a catalogue of so many rows
---     Goes ..                what one operator comes to: its table laid and entered, or that it passes the room, or
---                            fails
 --     refusedAt t at         the refusal of an operator at an offset
-use Prim.Native.Nat.{ℕ, _+_, _*_, _-_, _≤_}
+use Prim.Native.Nat.{ℕ, _*_, _-_, _≤_}
 use mathlib.Core.Path.{_≡_}
 use mathlib.Core.List.{List, []}
 use lib.IntN.{ℤ}
 use lib.ListN.{length, take}
-use Rattle.laws.specs.Attempt.{Attempt, Reading, refuses, reads, Work, full, failed, done}
+use Rattle.laws.specs.Attempt.{Reading, refuses, reads, Work, full, failed, done}
 use Rattle.laws.specs.Lists.{gather}
 use Rattle.laws.specs.Rows.{flat}
 use Rattle.meaning.specs.Calls.{lastTable}
@@ -23,13 +20,8 @@ use Rattle.meaning.specs.Catalogue.{catalogueOf}
 use Rattle.meaning.specs.Plan.{Placed, planRead}
 use Rattle.meaning.specs.Run.{Filled, running}
 use Rattle.meaning.specs.World.{worldOf}
-use Rattle.meaning.specs.Operators.{Table}
-use Rattle.tables.specs.declared.Laid.the-variants as Laid
-use Rattle.tables.specs.Layout.{Owes}
-use Rattle.directory.specs.Directory.{entered}
-use Rattle.operators.specs.declared.Top.{Top}
-use Rattle.running.specs.declared.Turned.{Turned}
-use Rattle.running.specs.declared.Turned.the-variants.{On, Full, Fails}
+use Rattle.laying.specs.declared.Turned.{Turned}
+use Rattle.laying.specs.declared.Turned.the-variants.{On, Full, Fails}
 use Rattle.running.specs.declared.Walked.{Walked}
 use Rattle.running.specs.declared.Walked.the-variants as Walked
 
@@ -57,17 +49,6 @@ AcceptedPlan bs = planRead bs ≡ reads (operatorsOf bs)
 
 abbrev pub carriedOut : List ℕ → List ℕ → (rows room : ℕ) → Work Filled
 carriedOut plan doc rows room = running (worldOf (catalogueOf doc rows)) room (operatorsOf plan) [] 0
-
--- .. where `made` is what its definition makes, w wide
-unfoldable pub Goes : (room : ℕ) → Top → (w : ℕ) → Attempt Table → List ℤ → List ℤ → List ℕ → List ℕ → Turned → Type 0
-Goes room top w made xs ys dir next (On more) =
-    (k : ℕ)
-    × Owes room (top .cells) w made xs ys (Laid.Rows k)
-    × (next ≡ entered dir (top .tables) (record { at = top .cells; rows = k; width = w }))
-    × (more .tables ≡ top .tables + 1)
-    × (more .cells ≡ top .cells + k * w)
-Goes room top w made xs ys dir next Full = Owes room (top .cells) w made xs ys Laid.Full
-Goes room top w made xs ys dir next Fails = Owes room (top .cells) w made xs ys Laid.Fails
 
 -- an operator that laid its table is not refused: `On` is never asked
 abbrev pub refusedAt : Turned → ℕ → Walked

@@ -1,6 +1,6 @@
 -- `refused` meets its contract, case by case.
 use mathlib.Core.Path.{sym, ap}
-use Rattle.running.specs.declared.Turned.{Turned}
+use Rattle.laying.specs.declared.Turned.{Turned}
 use Rattle.running.specs.Leaving.{refusedAt}
 use borrow.Author.Needs.{needs}
 use Rattle.running.proofs.refused.Statement.{statement}

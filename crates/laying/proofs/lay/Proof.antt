@@ -2,9 +2,9 @@
 use native.Mathlib.Omega.{arith}
 use borrow.Author.Needs.{needs}
 use Rattle.directory.specs.Sound.{Served}
-use Rattle.running.proofs.Turning.{rows-fit, goes-on, goes-full, goes-fails}
-use Rattle.running.proofs.lay.Statement.{statement}
-use Rattle.running.proofs.lay.Tie as tie
+use Rattle.laying.proofs.Turning.{rows-fit, goes-on, goes-full, goes-fails}
+use Rattle.laying.proofs.lay.Statement.{statement}
+use Rattle.laying.proofs.lay.Tie as tie
 
 -- the places on the way: the function's entry, the operator performed, its rows told
 abbrev start-of : tie.After-perform → tie.Start

@@ -14,8 +14,8 @@ use Rattle.tables.specs.Layout.{Owes}
 use Rattle.tables.proofs.Standing.{laid-fits}
 use Rattle.directory.specs.Directory.{entered}
 use Rattle.operators.specs.declared.Top.{Top}
-use Rattle.running.specs.declared.Turned.the-variants.{On, Full, Fails}
-use Rattle.running.specs.Leaving.{Goes}
+use Rattle.laying.specs.declared.Turned.the-variants.{On, Full, Fails}
+use Rattle.laying.specs.Goes.{Goes}
 
 module _ (room at w : ℕ) (made : Attempt Table) (xs ys : List ℤ) (o : Laid) (owes : Owes room at w made xs ys o) (k : ℕ)
     (e : o ≡ Laid.Rows k) where
