@@ -1,4 +1,1 @@
-pub mod Turns
-pub mod Gathering
-pub mod Passing
 pub mod Operators

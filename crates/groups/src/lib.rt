@@ -1,7 +1,5 @@
 // The operators that go by groups, RC, RE and RX: a group is the rows that hold one cell. Groups come by first
 // appearance.
-pub mod each;
-
 ghost use mathlib.Core.Path.{_≡_};
 ghost use Prim.Native.Nat.{_*_, _≤_, _<_};
 ghost use lib.ListN.{length};
@@ -13,15 +11,9 @@ ghost use Rattle.axes.specs.Steps.{Ready};
 ghost use Rattle.tables.specs.Layout.{tableAt, Inside, Owes};
 use codes::Axis;
 use codes::Test;
+use gathering::Gather;
 use tables::Laid;
 use tables::Stand;
-
-// What an operator makes of each group: how many rows it has, by a column; the truth of its items; the nodes of a step.
-pub enum Gather {
-    Count(usize),
-    Truth,
-    Step(Axis, Test),
-}
 
 // RC: each cell of column c with how many rows hold it. Few looks at each row where the column climbs; else at most
 // each row against each other, twice. It has no use for a catalogue or for marks.
@@ -34,7 +26,7 @@ pub fn counts(work: &mut [i64], s: Stand, c: usize, at: usize, room: usize) -> L
     let doc = [0; 1];
     let mut from = [false; 1];
     let mut to = [false; 1];
-    each::each_group(
+    gathering::each_group(
         &doc,
         0,
         Gather::Count(c),
@@ -58,12 +50,12 @@ pub fn truths(doc: &[u8], rows: usize, work: &mut [i64], s: Stand, at: usize, ro
         (now (work .entry)) (now (work .exit)) r ⌝ }
 {
     let up = tables::order::climbs(work, s, 0);
-    if !each::settles(work, s, up) {
+    if !gathering::settles(work, s, up) {
         return Laid::Fails;
     }
     let mut from = [false; 1];
     let mut to = [false; 1];
-    each::each_group(
+    gathering::each_group(
         doc,
         rows,
         Gather::Truth,
@@ -102,7 +94,7 @@ pub fn steps(
         return Laid::Fails;
     }
     let up = tables::order::climbs(work, s, 0);
-    each::each_group(
+    gathering::each_group(
         doc,
         rows,
         Gather::Step(axis, test),

@@ -3,8 +3,8 @@ use mathlib.Core.Path.{refl}
 use native.Mathlib.Omega.{arith}
 use Rattle.tables.specs.Layout.{Inside}
 use Rattle.tables.proofs.Promise.{owes-is}
-use Rattle.groups.specs.Gathered.{Asks, columnOf}
-use Rattle.groups.proofs.Gathering.{counts-is, counts-settled}
+use Rattle.gathering.specs.Gathered.{Asks, columnOf}
+use Rattle.gathering.proofs.Gathering.{counts-is, counts-settled}
 use borrow.Author.Needs.{needs}
 use Rattle.groups.proofs.counts.Statement.{statement}
 use Rattle.groups.proofs.counts.Tie as tie

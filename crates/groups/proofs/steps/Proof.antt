@@ -6,10 +6,10 @@ use borrow.Author.Tests.{not-true, not-false}
 use Rattle.meaning.specs.Catalogue.{catalogueOf}
 use Rattle.tables.specs.Layout.{tableAt, Inside, Owes}
 use Rattle.tables.proofs.Promise.{owes-is}
-use Rattle.groups.specs.Gathered.{Asks, columnOf}
-use Rattle.groups.proofs.Turns.{settled-yes, failed-no}
+use Rattle.gathering.specs.Gathered.{Asks, columnOf}
+use Rattle.gathering.proofs.Turns.{settled-yes, failed-no}
 use Rattle.stepping.proofs.Nodes.{rows-of}
-use Rattle.groups.proofs.Gathering.{steps-is, steps-succeed}
+use Rattle.gathering.proofs.Gathering.{steps-is, steps-succeed}
 use borrow.Author.Needs.{needs}
 use Rattle.groups.proofs.steps.Statement.{statement}
 use Rattle.groups.proofs.steps.Tie as tie

@@ -5,9 +5,9 @@ use borrow.Author.Tests.{not-true, not-false}
 use Rattle.meaning.specs.Catalogue.{catalogueOf}
 use Rattle.tables.specs.Layout.{Inside, Owes}
 use Rattle.tables.proofs.Promise.{owes-is}
-use Rattle.groups.specs.Gathered.{Asks, columnOf}
-use Rattle.groups.proofs.Turns.{settled-yes, failed-no}
-use Rattle.groups.proofs.Gathering.{truths-is}
+use Rattle.gathering.specs.Gathered.{Asks, columnOf}
+use Rattle.gathering.proofs.Turns.{settled-yes, failed-no}
+use Rattle.gathering.proofs.Gathering.{truths-is}
 use borrow.Author.Needs.{needs}
 use Rattle.groups.proofs.truths.Statement.{statement}
 use Rattle.groups.proofs.truths.Tie as tie

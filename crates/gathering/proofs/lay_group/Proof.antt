@@ -1,8 +1,8 @@
 -- `groups::each::lay_group` meets its contract: each kind of gathering by its own function.
-use Rattle.groups.proofs.Gathering.{suits-count, suits-truth, suits-step, owes-count, owes-truth, owes-step}
+use Rattle.gathering.proofs.Gathering.{suits-count, suits-truth, suits-step, owes-count, owes-truth, owes-step}
 use borrow.Author.Needs.{needs}
-use Rattle.groups.proofs.each.lay_group.Statement.{statement}
-use Rattle.groups.proofs.each.lay_group.Tie as tie
+use Rattle.gathering.proofs.lay_group.Statement.{statement}
+use Rattle.gathering.proofs.lay_group.Tie as tie
 
 -- places on the way
 abbrev start-of : tie.After-slice-known2 → tie.Start

@@ -9,12 +9,12 @@ use Rattle.tables.specs.Layout.{tableAt, Inside}
 use Rattle.tables.proofs.Promise.{owes-is, none-laid}
 use Rattle.members.specs.Grouped.{inFront, opening}
 use Rattle.tables.specs.Order.{cellAt, climbs}
-use Rattle.groups.specs.Gathered.{columnOf}
-use Rattle.groups.proofs.Turns.{turn-no, turn-yes}
-use Rattle.groups.proofs.Gathering.{suits-column, suits-wide}
+use Rattle.gathering.specs.Gathered.{columnOf}
+use Rattle.gathering.proofs.Turns.{turn-no, turn-yes}
+use Rattle.gathering.proofs.Gathering.{suits-column, suits-wide}
 use borrow.Author.Needs.{needs}
-use Rattle.groups.proofs.each.turn.Statement.{statement}
-use Rattle.groups.proofs.each.turn.Tie as tie
+use Rattle.gathering.proofs.turn.Statement.{statement}
+use Rattle.gathering.proofs.turn.Tie as tie
 
 -- places on the way
 abbrev start-of : tie.After-opens → tie.Start

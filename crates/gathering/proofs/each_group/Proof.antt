@@ -12,13 +12,13 @@ use Rattle.tables.specs.Layout.{tableAt, Inside, Owes}
 use Rattle.tables.proofs.Promise.{owes-is}
 use Rattle.tables.proofs.Laying.{counted-fits, length-laying}
 use Rattle.tables.specs.Order.{climbs}
-use Rattle.groups.specs.Gathered.{columnOf, turn}
+use Rattle.gathering.specs.Gathered.{columnOf, turn}
 use Rattle.tables.proofs.Reading.{length-table}
-use Rattle.groups.proofs.Gathering.{suits-long, table-kept}
-use Rattle.groups.proofs.Passing.{Lays, lays-first, lays-more, lays-stopped, lays-end}
+use Rattle.gathering.proofs.Gathering.{suits-long, table-kept}
+use Rattle.gathering.proofs.Passing.{Lays, lays-first, lays-more, lays-stopped, lays-end}
 use borrow.Author.Needs.{needs}
-use Rattle.groups.proofs.each.each_group.Statement.{statement}
-use Rattle.groups.proofs.each.each_group.Tie as tie
+use Rattle.gathering.proofs.each_group.Statement.{statement}
+use Rattle.gathering.proofs.each_group.Tie as tie
 
 abbrev Inv-loop : tie.InvT-loop
 Inv-loop doc rows gather work₀ s up from₀ to₀ at room top₀ n₀ i₀ work from to top n i =

@@ -1,9 +1,9 @@
 -- `groups::each::column_of` meets its contract.
 use mathlib.Core.Path.{sym, ap}
-use Rattle.groups.specs.Gathered.{columnOf}
+use Rattle.gathering.specs.Gathered.{columnOf}
 use borrow.Author.Needs.{needs}
-use Rattle.groups.proofs.each.column_of.Statement.{statement}
-use Rattle.groups.proofs.each.column_of.Tie as tie
+use Rattle.gathering.proofs.column_of.Statement.{statement}
+use Rattle.gathering.proofs.column_of.Tie as tie
 
 enum-known-gather : tie.Need-enum-known-gather
 enum-known-gather c = search needs

@@ -25,10 +25,10 @@ use Rattle.laws.specs.Attempt.{Attempt, fails, gives, attempt, each}
 use Rattle.meaning.specs.World.{World}
 use Rattle.meaning.specs.Operators.{Table, column, groups, groupOf}
 use Rattle.tables.specs.Laying.{succeeds, Settled}
-use Rattle.groups.specs.declared.Gather.{Gather}
+use Rattle.gathering.specs.declared.Gather.{Gather}
 use Rattle.members.specs.Grouped.{inFront, opening}
 use Rattle.tables.specs.Order.{cellAt}
-use Rattle.groups.specs.Gathered.{columnOf, gathered, made, turn, whole}
+use Rattle.gathering.specs.Gathered.{columnOf, gathered, made, turn, whole}
 use Rattle.tables.proofs.Reading.{length-column, getD-column}
 
 unfoldable pub turnsAfter : (ℤ → Attempt Table) → List ℤ → List ℤ → List (Attempt Table)

@@ -4,14 +4,14 @@ use native.Mathlib.Omega.{arith}
 use borrow.Author.Tests.{not-true, not-false}
 use Rattle.tables.specs.Layout.{Inside}
 use Rattle.tables.specs.Laying.{succeeds}
-use Rattle.groups.specs.Gathered.{columnOf}
-use Rattle.groups.specs.declared.Gather.the-variants.{Truth}
+use Rattle.gathering.specs.Gathered.{columnOf}
+use Rattle.gathering.specs.declared.Gather.the-variants.{Truth}
 use Rattle.meaning.specs.World.{worldOf}
-use Rattle.groups.proofs.Turns.{turn-no}
-use Rattle.groups.proofs.Passing.{truth-turn}
+use Rattle.gathering.proofs.Turns.{turn-no}
+use Rattle.gathering.proofs.Passing.{truth-turn}
 use borrow.Author.Needs.{needs}
-use Rattle.groups.proofs.each.settled.Statement.{statement}
-use Rattle.groups.proofs.each.settled.Tie as tie
+use Rattle.gathering.proofs.settled.Statement.{statement}
+use Rattle.gathering.proofs.settled.Tie as tie
 
 opens-requires : tie.Need-opens-requires
 opens-requires c κs = ((c .pre .0 .0, omega arith, c .pre .0 .2), c .pre .1)

@@ -10,14 +10,14 @@ use Rattle.meaning.specs.Catalogue.{Catalogue}
 use Rattle.meaning.specs.World.{worldOf}
 use Rattle.tables.specs.Layout.{tableAt}
 use Rattle.tables.specs.Laying.{succeeds}
-use Rattle.groups.specs.declared.Gather.the-variants.{Truth}
-use Rattle.groups.specs.Gathered.{whole}
+use Rattle.gathering.specs.declared.Gather.the-variants.{Truth}
+use Rattle.gathering.specs.Gathered.{whole}
 use Rattle.tables.proofs.Reading.{length-table}
-use Rattle.groups.proofs.Turns.{rest}
-use Rattle.groups.proofs.Passing.{tests-first, tests-fails, tests-more, tests-end}
+use Rattle.gathering.proofs.Turns.{rest}
+use Rattle.gathering.proofs.Passing.{tests-first, tests-fails, tests-more, tests-end}
 use borrow.Author.Needs.{needs}
-use Rattle.groups.proofs.each.settles.Statement.{statement}
-use Rattle.groups.proofs.each.settles.Tie as tie
+use Rattle.gathering.proofs.settles.Statement.{statement}
+use Rattle.gathering.proofs.settles.Tie as tie
 
 abbrev Inv-loop : tie.InvT-loop
 Inv-loop work s up i₀ i =

@@ -23,12 +23,12 @@ use Rattle.tables.specs.Layout.{Owes}
 use Rattle.tables.specs.Laying.{succeeds, Settled, Laying}
 use Rattle.tables.proofs.Laid.{the-type}
 use Rattle.tables.proofs.Laying.{laying-start, laying-more, laying-stopped, laying-end}
-use Rattle.groups.specs.declared.Gather.{Gather}
-use Rattle.groups.specs.declared.Gather.the-variants.{Truth}
+use Rattle.gathering.specs.declared.Gather.{Gather}
+use Rattle.gathering.specs.declared.Gather.the-variants.{Truth}
 use Rattle.members.specs.Grouped.{inFront, opening}
 use Rattle.tables.specs.Order.{cellAt}
-use Rattle.groups.specs.Gathered.{columnOf, gathered, made, turn, whole}
-use Rattle.groups.proofs.Turns.{rest, rest-head, rest-none, rest-whole, succeeds-each, turn-yes}
+use Rattle.gathering.specs.Gathered.{columnOf, gathered, made, turn, whole}
+use Rattle.gathering.proofs.Turns.{rest, rest-head, rest-none, rest-whole, succeeds-each, turn-yes}
 
 -- what is made of the groups up to row i is laid
 abbrev pub Lays : (room at : ℕ) → Gather → World → Table → (entry : List ℤ) (i : ℕ) (work : List ℤ) (top n : ℕ) → Type 0

@@ -4,8 +4,8 @@ use Rattle.items.specs.declared.Judged.{Judged}
 use Rattle.items.specs.Answers.{judged}
 use Rattle.tables.specs.Laying.{succeeds}
 use borrow.Author.Needs.{needs}
-use Rattle.groups.proofs.each.is_judged.Statement.{statement}
-use Rattle.groups.proofs.each.is_judged.Tie as tie
+use Rattle.gathering.proofs.is_judged.Statement.{statement}
+use Rattle.gathering.proofs.is_judged.Tie as tie
 
 enum-told : tie.Need-enum-told
 enum-told c = search needs

@@ -8,11 +8,12 @@ ghost use Rattle.meaning.specs.Operators.{column};
 ghost use Rattle.meaning.specs.World.{worldOf};
 ghost use Rattle.tables.specs.Layout.{tableAt, Inside, Owes};
 ghost use Rattle.tables.specs.Laying.{succeeds, Settled};
-ghost use Rattle.groups.specs.declared.Gather.the-variants as Gathers;
+ghost use Rattle.gathering.specs.declared.Gather.the-variants as Gathers;
 ghost use Rattle.members.specs.Grouped.{inFront};
 ghost use Rattle.tables.specs.Order.{climbs};
-ghost use Rattle.groups.specs.Gathered;
-use crate::Gather;
+ghost use Rattle.gathering.specs.Gathered;
+use codes::Axis;
+use codes::Test;
 use items::Judged;
 use members::counting::count_group;
 use members::finding::opens;
@@ -22,6 +23,13 @@ use members::judging::truth_group;
 use stepping::step_group;
 use tables::Laid;
 use tables::Stand;
+
+// What an operator makes of each group: how many rows it has, by a column; the truth of its items; the nodes of a step.
+pub enum Gather {
+    Count(usize),
+    Truth,
+    Step(Axis, Test),
+}
 
 // The column that the groups go by.
 fn column_of(gather: Gather) -> usize

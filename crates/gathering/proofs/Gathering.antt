@@ -33,12 +33,12 @@ use Rattle.tables.specs.declared.Stand.{Stand}
 use Rattle.tables.specs.declared.Laid.{Laid}
 use Rattle.tables.specs.Layout.{tableAt, Inside, Owes}
 use Rattle.tables.specs.Laying.{succeeds, Settled}
-use Rattle.groups.specs.declared.Gather.{Gather}
-use Rattle.groups.specs.declared.Gather.the-variants.{Count, Truth, Step}
+use Rattle.gathering.specs.declared.Gather.{Gather}
+use Rattle.gathering.specs.declared.Gather.the-variants.{Count, Truth, Step}
 use Rattle.members.specs.Grouped.{inFront}
-use Rattle.groups.specs.Gathered.{columnOf, gathered, made, whole, Asks}
+use Rattle.gathering.specs.Gathered.{columnOf, gathered, made, whole, Asks}
 use Rattle.stepping.specs.Marking.{isNode}
-use Rattle.groups.proofs.Turns.{succeeds-each}
+use Rattle.gathering.proofs.Turns.{succeeds-each}
 
 module _ (gather k : Gather) (e : gather ≡ k) where
   gather-suits :
