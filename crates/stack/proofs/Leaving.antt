@@ -31,7 +31,7 @@ use Rattle.stack.specs.declared.Pair.{Pair}
 use Rattle.stack.specs.declared.Pair.the-variants as Pair
 use Rattle.stack.specs.Stack.{stood, Paired, paired, Fit, FitPair, Ends, EndsPair, At, Sums, raising, joining}
 use Rattle.stack.specs.Stack.{Lent, Leaves}
-use Rattle.stack.specs.Arms.{raised, joined, kept}
+use Rattle.stack.specs.Moves.{raised, joined}
 use Rattle.lent.proofs.Moves.{row-here}
 use Rattle.stack.proofs.Stood.{the-type}
 use Rattle.stack.proofs.Pair.{the-type as pair-type}

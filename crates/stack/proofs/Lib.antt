@@ -1,4 +1,1 @@
 pub mod Leaving
-pub mod Applying
-pub mod Valuing
-pub mod Reaching

@@ -23,7 +23,7 @@ use Rattle.query_walks.proofs.Parsing.{triple-gives}
 use Rattle.stack.specs.declared.Stood.{Stood}
 use Rattle.stack.specs.declared.Stood.the-variants as Stood
 use Rattle.stack.specs.Stack.{stood, Ends, At, raising, Leaves}
-use Rattle.stack.specs.Arms.{raised}
+use Rattle.stack.specs.Moves.{raised}
 use Rattle.stack.proofs.Leaving.{leaves-raised}
 use Rattle.stack.proofs.Stood.{the-type}
 use Rattle.working.specs.declared.Scope.{Scope}

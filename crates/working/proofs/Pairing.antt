@@ -23,7 +23,7 @@ use Rattle.stack.specs.declared.Stood.{Stood}
 use Rattle.stack.specs.declared.Stood.the-variants as Stood
 use Rattle.stack.specs.declared.Pair.{Pair}
 use Rattle.stack.specs.Stack.{Paired, stood, paired, Fit, FitPair, Ends, EndsPair, besiding, Adds}
-use Rattle.stack.specs.Arms.{pairing}
+use Rattle.stack.specs.Moves.{pairing}
 use Rattle.lent.proofs.Moves.{row-kept}
 use Rattle.stack.proofs.Stood.{the-type}
 use Rattle.working.specs.declared.Scope.{Scope}

@@ -34,7 +34,7 @@ use Rattle.stack.specs.declared.Stood.the-variants as Stood
 use Rattle.stack.specs.declared.Pair.{Pair}
 use Rattle.stack.specs.declared.Pair.the-variants as Pair
 use Rattle.stack.specs.Stack.{stood, paired, EndsPair, besiding, Leaves}
-use Rattle.stack.specs.Arms as Arms
+use Rattle.stack.specs.Moves as Moves
 use Rattle.stack.proofs.Leaving.{row-append}
 use Rattle.lent.proofs.Moves.{row-kept}
 use Rattle.stack.proofs.Stood.{the-type}
@@ -169,7 +169,7 @@ module _ (w : World) (t : Parsed) (v top room n count : ℕ) (s : Scope) (before
           (after : List ℤ) (next : ℕ) (m : Stood) → OneOf (1 ∷ 2 ∷ []) (tagOf the-type m) →
           Works w t (top + n + got) room (scoping s (Variable v) (top + i) 1) cells after m →
           Turns w t v top room n count next s before after (besiding 0 0 m)
-      unfolding stood work paired besiding Arms.kept
+      unfolding stood work paired besiding Moves.kept
       stopped after next (Stood.Items l k m) h g = absurd (miss (1 ∷ 2 ∷ []) 0 tt h)
       stopped after next (Stood.Full p) h g =
           record {
@@ -201,7 +201,7 @@ module _ (w : World) (t : Parsed) (v top room n count : ℕ) (s : Scope) (before
   pub turning-end :
       (next i got most : ℕ) (cells : List ℤ) → i ≡ n → Turning i got most cells →
       Turns w t v top room n count next s before cells (Pair.Items n got most next)
-  unfolding Arms.kept paired loop row work
+  unfolding Moves.kept paired loop row work
   turning-end next i got most cells d inv =
       record {
         kept = take-lower top (top + n) before cells (omega arith) (inv .kept);
@@ -229,13 +229,13 @@ module _ (w : World) (rd : ℕ → Parsed) (place at v top room : ℕ) (s : Scop
       (l k n end : ℕ) (last after : List ℤ) (m : Stood) (p : Pair) (r : Stood) → m ≡ Stood.Items l k n → Scoped top s →
       room ≤ length mid → Works w (rd at) top room s before mid m → Past (rd n) end →
       Turns w (rd n) v top room l k end s mid last p →
-      Leaves top room (Arms.kept (paired last top p)) (EndsPair p) last after r →
+      Leaves top room (Moves.kept (paired last top p)) (EndsPair p) last after r →
       Works w (trees rd place at (Query.for v)) top room s before after r
   unfolding trees evaluate stood stand work
   for-turned l k n end last after m p r q sc le worked past u b =
       let g : Works w (rd at) top room s before mid (Stood.Items l k n) =
       subst (λ (m : Stood). Works w (rd at) top room s before mid m) q worked in
-      works-leaves w _ top room s before after last r (Arms.kept (paired last top p)) (EndsPair p) b (u .kept ∙ g .kept)
+      works-leaves w _ top room s before after last r (Moves.kept (paired last top p)) (EndsPair p) b (u .kept ∙ g .kept)
       (λ e h z c.
       let (x, y, i, j, d) = pair-gives (QF place v) (rd at) rd z c in
       let first = g .means e h x i in

@@ -35,7 +35,8 @@ use Rattle.stack.specs.declared.Stood.the-variants as Stood
 use Rattle.stack.specs.declared.Pair.{Pair}
 use Rattle.stack.specs.declared.Pair.the-variants as Pair
 use Rattle.stack.specs.Stack.{Paired, stood, paired, Fit, FitPair, Ends, EndsPair, At, joining, Leaves}
-use Rattle.stack.specs.Arms.{raised, pairing, joined, kept, applied, counted, valued, stepped}
+use Rattle.stack.specs.Moves.{raised, pairing, joined, kept, counted}
+use Rattle.stack_records.specs.Arms.{applied, valued, stepped}
 use Rattle.stack.proofs.Leaving.{stood-joined}
 use Rattle.stack.proofs.Stood.{the-type}
 use Rattle.working.specs.declared.Scope.{Scope}

@@ -29,8 +29,8 @@ use Rattle.stack.specs.declared.Stood.{Stood}
 use Rattle.stack.specs.declared.Stood.the-variants as Stood
 use Rattle.stack.specs.declared.Pair.{Pair}
 use Rattle.stack.specs.Stack.{Paired, stood, paired, Fit, FitPair, Ends, EndsPair}
-use Rattle.stack.specs.Arms.{pairing}
-use Rattle.stack.specs.Arms as Arms
+use Rattle.stack.specs.Moves.{pairing}
+use Rattle.stack.specs.Moves as Moves
 use Rattle.working.specs.declared.Scope.{Scope}
 use Rattle.working.specs.declared.Binding.{Binding}
 use Rattle.working.specs.Scopes.{HoldsEnv, binding}
@@ -90,4 +90,4 @@ pub record Turns
   pub ends : EndsPair p next
   pub means :
       (e : Env) → HoldsEnv before s e → (x : Query × ℕ) → t ≡ gives x →
-      Arms.kept (paired after top p) ≡ loop (turn w e v (x .0)) (room - top) n count [] (row before top n)
+      Moves.kept (paired after top p) ≡ loop (turn w e v (x .0)) (room - top) n count [] (row before top n)

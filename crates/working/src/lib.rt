@@ -17,7 +17,7 @@ ghost use Rattle.meaning.specs.Query;
 ghost use Rattle.query_walks.specs.Parse.{parse, trees};
 ghost use Rattle.axes.specs.Steps.{Known};
 ghost use Rattle.stack.specs.Stack.{stood, Fit, Ends, At, Leaves, Lent};
-ghost use Rattle.stack.specs.Arms.{stepped};
+ghost use Rattle.stack_records.specs.Arms.{stepped};
 ghost use Rattle.working.specs.Evaluating.{endingAt, Works, Branches, Pairs, Turns};
 ghost use Rattle.working.specs.Scopes.{Scoped, held, Bindable, scoping};
 
@@ -97,7 +97,7 @@ fn step(
 {
     let mut from = [false; ROWS];
     let mut to = [false; ROWS];
-    stack::step(
+    stack_records::step(
         doc,
         rows,
         axis,
@@ -400,7 +400,7 @@ pub fn work_out(
             count: 0,
             next,
         },
-        Record::Root(k) => stack::root(doc, rows, k, at, next, work, top, room),
+        Record::Root(k) => stack_records::root(doc, rows, k, at, next, work, top, room),
         Record::Variable(v) => variable(scope, v, at, next, work, top, room),
         Record::Sequence => {
             let none = Binding::Nothing;
@@ -416,7 +416,7 @@ pub fn work_out(
         Record::Apply(f) => {
             let none = Binding::Nothing;
             let pair = two(query, doc, rows, scope, none, next, left, work, top, room);
-            stack::apply(f, pair, at, work, top)
+            stack_records::apply(f, pair, at, work, top)
         }
         Record::Count => {
             let a = work_out(query, doc, rows, scope, next, left, work, top, room);
@@ -424,7 +424,7 @@ pub fn work_out(
         }
         Record::Data => {
             let a = work_out(query, doc, rows, scope, next, left, work, top, room);
-            stack::values(doc, rows, a, at, work, top)
+            stack_records::values(doc, rows, a, at, work, top)
         }
         Record::Step(axis, test) => {
             let a = work_out(query, doc, rows, scope, next, left, work, top, room);

@@ -7,7 +7,7 @@ use lib.ListN.{length}
 use Rattle.laws.specs.Rows.{row}
 use Rattle.laws.proofs.Rows.{length-row}
 use Rattle.stack.specs.Stack.{FitPair}
-use Rattle.stack.specs.Arms.{kept}
+use Rattle.stack.specs.Moves.{kept}
 use Rattle.stack.proofs.Leaving.{leaves-pair, leaves-as, leaves-laid, pair-stopped, fit-sums}
 use borrow.Author.Needs.{needs}
 use Rattle.stack.proofs.drop_first.Statement.{statement}

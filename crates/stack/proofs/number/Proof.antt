@@ -9,7 +9,7 @@ use Prim.Native.Nat.{_-_}
 use Rattle.laws.proofs.Rows.{length-row}
 use Rattle.meaning.specs.Counted.{adding}
 use Rattle.stack.specs.Stack.{Fit}
-use Rattle.stack.specs.Arms.{counted, raised}
+use Rattle.stack.specs.Moves.{counted, raised}
 use Rattle.stack.proofs.Leaving.{leaves-stopped, leaves-items, leaves-raised, leaves-as}
 use borrow.Author.Needs.{needs}
 use Rattle.stack.proofs.number.Statement.{statement}

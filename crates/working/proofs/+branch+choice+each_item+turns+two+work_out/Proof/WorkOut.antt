@@ -14,7 +14,8 @@ use Rattle.query_walks.specs.Parse.{trees, parse}
 use Rattle.query_records.specs.Fields.{Ranged}
 use Rattle.query_walks.proofs.Callers.{unfound-parses, found-parses, shallow-parses}
 use Rattle.query_records.proofs.Callers.{found-sound, found-small}
-use Rattle.stack.specs.Arms.{rooted, joined, kept, applied, counted, valued, stepped}
+use Rattle.stack.specs.Moves.{joined, kept, counted}
+use Rattle.stack_records.specs.Arms.{rooted, applied, valued, stepped}
 use Rattle.stack.proofs.Leaving.{leaves-as, adding-as, fit-sums}
 use Rattle.working.proofs.Working.{fit-wider, fit-pair-wider, leaves-none, leaves-joined}
 use Rattle.working.proofs.Working.{works-nothing, works-as, works-leaf, works-one, works-two}
@@ -28,13 +29,13 @@ use Rattle.working.proofs.+branch+choice+each_item+turns+two+work_out.L
 use Rattle.query_records.proofs.read.Reads as read-reads
 use Rattle.cells.proofs.cell_of.Reads as cell-of-reads
 use Rattle.stack.proofs.put.Reads as put-reads
-use Rattle.stack.proofs.root.Reads as root-reads
+use Rattle.stack_records.proofs.root.Reads as root-reads
 use Rattle.working.proofs.variable.Reads as variable-reads
 use Rattle.stack.proofs.join.Reads as join-reads
 use Rattle.stack.proofs.drop_first.Reads as drop-first-reads
-use Rattle.stack.proofs.apply.Reads as apply-reads
+use Rattle.stack_records.proofs.apply.Reads as apply-reads
 use Rattle.stack.proofs.number.Reads as number-reads
-use Rattle.stack.proofs.values.Reads as values-reads
+use Rattle.stack_records.proofs.values.Reads as values-reads
 use Rattle.working.proofs.step.Reads as step-reads
 use Rattle.working.proofs.+branch+choice+each_item+turns+two+work_out.Proof.Measures.{work-out-at, two-below}
 use Rattle.working.proofs.+branch+choice+each_item+turns+two+work_out.Proof.Measures.{each-item-below}

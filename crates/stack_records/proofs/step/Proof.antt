@@ -3,13 +3,13 @@
 use Prim.Native.Nat.{_+_, _≤_}
 use mathlib.Core.Path.{subst}
 use native.Mathlib.Omega.{arith}
 use Rattle.stack.specs.Stack.{Fit}
-use Rattle.stack.specs.Arms.{stepped}
+use Rattle.stack_records.specs.Arms.{stepped}
 use Rattle.stack.proofs.Leaving.{leaves-stopped}
-use Rattle.stack.proofs.Reaching.{leaves-strange, leaves-short, leaves-reached}
+use Rattle.stack_records.proofs.Reaching.{leaves-strange, leaves-short, leaves-reached}
 use borrow.Author.Needs.{needs}
-use Rattle.stack.proofs.step.Statement.{statement}
-use Rattle.stack.proofs.step.Tie as tie
+use Rattle.stack_records.proofs.step.Statement.{statement}
+use Rattle.stack_records.proofs.step.Tie as tie
 
 -- the places on the way: the function's entry, the operand told, the step done
 abbrev start-of : tie.After-known-told → tie.Start

@@ -1,12 +1,12 @@
 -- `apply` meets its contract: an operand that is refused is handed on; else the function of the two sides.
 use mathlib.Core.Path.{refl, sym, subst}
 use Rattle.laws.specs.Attempt.{work}
 use Rattle.stack.specs.Stack.{FitPair, paired}
-use Rattle.stack.specs.Arms.{applied}
+use Rattle.stack_records.specs.Arms.{applied}
 use Rattle.stack.proofs.Leaving.{leaves-pair, leaves-as, pair-stopped, fit-sums}
 use borrow.Author.Needs.{needs}
-use Rattle.stack.proofs.apply.Statement.{statement}
-use Rattle.stack.proofs.apply.Tie as tie
+use Rattle.stack_records.proofs.apply.Statement.{statement}
+use Rattle.stack_records.proofs.apply.Tie as tie
 
 enum-known-pair : tie.Need-enum-known-pair
 enum-known-pair c = search needs

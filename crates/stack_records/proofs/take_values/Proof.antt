@@ -15,10 +15,10 @@ use Rattle.meaning.specs.World as World
 use Rattle.meaning.specs.World.{worldOf}
 use Rattle.items.specs.Answers.{tried}
 use Rattle.lent.proofs.Moves.{getD-past}
-use Rattle.stack.proofs.Valuing.{Taking, taking-none, taking-more, taking-stop, taking-all}
+use Rattle.stack_records.proofs.Valuing.{Taking, taking-none, taking-more, taking-stop, taking-all}
 use borrow.Author.Needs.{needs}
-use Rattle.stack.proofs.take_values.Statement.{statement}
-use Rattle.stack.proofs.take_values.Tie as tie
+use Rattle.stack_records.proofs.take_values.Statement.{statement}
+use Rattle.stack_records.proofs.take_values.Tie as tie
 
 abbrev Inv-loop : tie.InvT-loop
 Inv-loop doc rows work₀ top n i₀ work i =

@@ -1,10 +1,10 @@
 -- `reach` meets its contract: marks of the items, then the step over them.
 use mathlib.Core.Path.{refl}
 use Rattle.meaning.specs.Catalogue.{catalogueOf}
-use Rattle.stack.proofs.Reaching.{reaches-all, reaches-not}
+use Rattle.stack_records.proofs.Reaching.{reaches-all, reaches-not}
 use borrow.Author.Needs.{needs}
-use Rattle.stack.proofs.reach.Statement.{statement}
-use Rattle.stack.proofs.reach.Tie as tie
+use Rattle.stack_records.proofs.reach.Statement.{statement}
+use Rattle.stack_records.proofs.reach.Tie as tie
 
 mark-requires : tie.Need-mark-requires
 mark-requires c κs = search needs

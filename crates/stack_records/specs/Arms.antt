@@ -1,30 +1,25 @@
--- What each record does with what its operands left (document 01, 'Query records', 'Room'): the clauses of `evaluate`,
--- each as a function of its operands' outcomes.
+-- What the records that ask the catalogue, or what an item is, do with what their operands left (document 01, 'Query
+-- records', 'Room'): clauses of `evaluate`, each as a function of its operands' outcomes.
 --     rooted w room at k  QR: the root of fragment k
---     raised k o          the same items, where at least k stood
---     pairing o f         two operands, the second worked out behind the items of the first; f its outcome
---     joined p            QS: a's items, then b's
---     kept p              QT: b's items
 --     applied w at f p    QO: a function of the two
---     counted room at o   QC: the number of items
 --     valued w at o       QD: each item's value
 --     stepped w room at x t o     QX: a step
 --     Reaches doc n x t xs ms m   m says whether every one of xs is a node; ms are the marks of the nodes that the step
 --                                 reaches
 --     Valued w top n before after t    t says whether each of the n items from top on has a value; those values in its
 --                                      place
-use Prim.Native.Nat.{ℕ, _+_, max}
+use Prim.Native.Nat.{ℕ}
 use mathlib.Core.Path.{_≡_}
 use mathlib.Core.Bool.{Bool, true, false}
-use mathlib.Core.List.{List, [], _∷_, _++_, map}
-use lib.IntN.{ℤ, pos}
+use mathlib.Core.List.{List, [], _∷_, map}
+use lib.IntN.{ℤ}
 use lib.ListN.{length, take}
 use Rattle.laws.specs.Rows.{row, laid}
 use Rattle.cells.specs.Cell.{nodeCell}
 use Rattle.codes.specs.declared.Axis.{Axis}
 use Rattle.codes.specs.declared.Function.{Function}
 use Rattle.codes.specs.declared.Test.{Test}
-use Rattle.laws.specs.Attempt.{fails, gives, Work, done, work, trying}
+use Rattle.laws.specs.Attempt.{fails, gives, Work, work, trying}
 use Rattle.meaning.specs.Catalogue.{catalogueOf}
 use Rattle.meaning.specs.World.{World, step}
 use Rattle.meaning.specs.Meaning.{apply, values}
@@ -32,32 +27,14 @@ use Rattle.meaning.specs.Counted.{Standing, stand, adding}
 use Rattle.nodesets.specs.declared.Marked.{Marked}
 use Rattle.nodesets.specs.declared.Marked.the-variants.{AllNodes, NotANode}
 use Rattle.nodesets.specs.Nodes.{ranks}
 use Rattle.stack.specs.Stack.{Paired}
+use Rattle.stack.specs.Moves.{raised}
 
 unfoldable pub rooted : World → ℕ → ℕ → ℕ → Work Standing
 rooted w room at k = trying at (w .root k) (λ r. adding room at 0 (r ∷ []))
 
-unfoldable pub raised : ℕ → Work Standing → Work Standing
-raised k o = work o (λ t. stand (t .items) (max k (t .count)))
-
-unfoldable pub pairing : Work Standing → (Standing → Work Standing) → Work Paired
-pairing o f =
-    work o
-    (λ s. work (f s)
-    (λ t. done (record { first = s .items; second = t .items; count = max (s .count) (length (s .items) + t .count) })))
-
-unfoldable pub joined : Work Paired → Work Standing
-joined p = work p (λ d. stand (d .first ++ d .second) (d .count))
-
-unfoldable pub kept : Work Paired → Work Standing
-kept p = work p (λ d. stand (d .second) (d .count))
-
 unfoldable pub applied : World → ℕ → Function → Work Paired → Work Standing
 applied w at f p = work p (λ d. trying at (apply w f (d .first) (d .second)) (λ xs. stand xs (d .count)))
-
-unfoldable pub counted : ℕ → ℕ → Work Standing → Work Standing
-counted room at o =
-    work o (λ s. raised (s .count) (adding room at 0 (pos (length (s .items)) ∷ [])))
 
 unfoldable pub valued : World → ℕ → Work Standing → Work Standing
 valued w at o = work o (λ s. trying at (values w (s .items)) (λ xs. stand xs (s .count)))

@@ -15,12 +15,12 @@ use Rattle.laws.specs.Attempt.{Attempt, fails, gives, attempt, work}
 use Rattle.meaning.specs.World.{World}
 use Rattle.meaning.specs.Meaning.{apply}
 use Rattle.meaning.specs.Counted.{stand}
 use Rattle.stack.specs.declared.Stood.{Stood}
 use Rattle.stack.specs.declared.Stood.the-variants as Stood
 use Rattle.stack.specs.declared.Pair.the-variants as Pair
 use Rattle.stack.specs.Stack.{paired, At, Leaves}
-use Rattle.stack.specs.Arms.{applied}
+use Rattle.stack_records.specs.Arms.{applied}
 use Rattle.stack.proofs.Leaving.{leaves-laid, leaves-fails, leaves-gives}
 
 module _ (w : World) (f : Function) where
   apply-many : (xs ys : List ℤ) → 1 < length xs → apply w f xs ys ≡ fails

@@ -4,12 +4,12 @@ use mir.Syntax.{w64}
 use mir.Val.{SFits}
 use mir.Facts.{toZ-ofZ}
 use Rattle.meaning.specs.World.{worldOf}
-use Rattle.stack.specs.Arms.{rooted}
+use Rattle.stack_records.specs.Arms.{rooted}
 use Rattle.items.specs.Answers.{tried}
 use Rattle.stack.proofs.Leaving.{leaves-fails, leaves-gives, leaves-as, adding-as}
 use borrow.Author.Needs.{needs}
-use Rattle.stack.proofs.root.Statement.{statement}
-use Rattle.stack.proofs.root.Tie as tie
+use Rattle.stack_records.proofs.root.Statement.{statement}
+use Rattle.stack_records.proofs.root.Tie as tie
 
 -- the root's cell is one of 64 bits
 narrow : (c : tie.After-known-told) → SFits w64 (c .before .found .given .0 .0)

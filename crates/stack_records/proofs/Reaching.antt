@@ -26,13 +26,14 @@ use Rattle.axes.specs.Steps.{Step}
 use Rattle.nodesets.specs.Nodes.{ranks}
 use Rattle.nodesets.specs.Nodes.{FromAll}
 use Rattle.axes.proofs.Whole.{step-gives, step-fails}
 use Rattle.stack.specs.declared.Stood.{Stood}
 use Rattle.stack.specs.declared.Stood.the-variants as Stood
 use Rattle.stack.specs.Stack.{stood, Fit, Ends, At, Lent, Leaves, raising}
-use Rattle.stack.specs.Arms.{raised, stepped, Reaches}
+use Rattle.stack.specs.Moves.{raised}
+use Rattle.stack_records.specs.Arms.{stepped, Reaches}
 use Rattle.lent.proofs.Moves.{part-row}
 use Rattle.stack.proofs.Leaving.{leaves-items, leaves-fails, leaves-gives, leaves-raised, leaves-crowded}
 use Rattle.stack.proofs.Leaving.{leaves-added, leaves-as}
 
 module _ (doc : List ℕ) (n : ℕ) (axis : Axis) (test : Test) (xs : List ℤ) (from : List Bool) (m : Marked) where
   pub reaches-not :

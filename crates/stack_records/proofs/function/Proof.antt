@@ -9,12 +9,12 @@ use mir.Facts.{toZ-ofZ}
 use Rattle.meaning.specs.World as World
 use Rattle.meaning.specs.World.{worldOf}
 use Rattle.items.specs.Answers.{tried}
 use Rattle.stack.proofs.Leaving.{put-at}
 use native.Mathlib.Omega.{arith}
-use Rattle.stack.proofs.Applying.{sides-many, sides-more, sides-none, sides-nothing, sides-fail, sides-both}
+use Rattle.stack_records.proofs.Applying.{sides-many, sides-more, sides-none, sides-nothing, sides-fail, sides-both}
 use borrow.Author.Needs.{needs}
-use Rattle.stack.proofs.function.Statement.{statement}
-use Rattle.stack.proofs.function.Tie as tie
+use Rattle.stack_records.proofs.function.Statement.{statement}
+use Rattle.stack_records.proofs.function.Tie as tie
 
 -- the cell that it gives is one of 64 bits
 narrow : (c : tie.After-known-told) → SFits w64 (c .before .tried .given .0 .0)

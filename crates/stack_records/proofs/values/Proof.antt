@@ -1,12 +1,12 @@
 -- `values` meets its contract: an operand that is refused is handed on; else each item's value stands in its place.
 use mathlib.Core.Path.{subst}
 use native.Mathlib.Omega.{arith}
 use Rattle.stack.specs.Stack.{Fit}
-use Rattle.stack.specs.Arms.{valued, Valued}
+use Rattle.stack_records.specs.Arms.{valued, Valued}
 use Rattle.stack.proofs.Leaving.{leaves-stopped, leaves-items, leaves-laid, leaves-fails-kept, leaves-gives}
 use borrow.Author.Needs.{needs}
-use Rattle.stack.proofs.values.Statement.{statement}
-use Rattle.stack.proofs.values.Tie as tie
+use Rattle.stack_records.proofs.values.Statement.{statement}
+use Rattle.stack_records.proofs.values.Tie as tie
 
 enum-known-operand : tie.Need-enum-known-operand
 enum-known-operand c = search needs
