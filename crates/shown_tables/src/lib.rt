@@ -1,4 +1,4 @@
-// Where the table of an operator stands in the cells of a run.
+// The cells of the table of an operator, asked of the runner: the plan to run, and where the table then stands.
 ghost use mathlib.Core.Path.{_≡_};
 ghost use Prim.Native.Nat.{_+_, _≤_, _<_};
 ghost use lib.ListN.{length};
