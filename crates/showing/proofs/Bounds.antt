@@ -1,18 +1,18 @@
--- What the answers of crates/views say of offsets and cells.
+-- What the answers of crates/shown_records and crates/shown_tables say of offsets and cells.
 --     number-ahead, cell-ahead           the offset after a field
 --     suited-within, unsuited-within     the offset after a record, and the width of its table
 --     cells-standing                     the cells of a table
 use Prim.Native.Nat.{ℕ, _+_, _≤_, _<_}
 use mathlib.Core.Path.{_≡_, subst}
 use lib.IntN.{ℤ}
-use Rattle.views.specs.declared.records.Seen.{Seen}
-use Rattle.views.specs.declared.records.Seen.the-variants as Seen
-use Rattle.views.specs.declared.records.ShownField.{ShownField}
-use Rattle.views.specs.declared.records.ShownField.the-variants as ShownField
-use Rattle.views.specs.declared.places.Place.{Place}
-use Rattle.views.specs.declared.places.Place.the-variants.{Cells}
-use Rattle.views.specs.Records.{Within, Ahead}
-use Rattle.views.specs.Places.{PlaceStands}
+use Rattle.shown_records.specs.declared.Seen.{Seen}
+use Rattle.shown_records.specs.declared.Seen.the-variants as Seen
+use Rattle.shown_records.specs.declared.ShownField.{ShownField}
+use Rattle.shown_records.specs.declared.ShownField.the-variants as ShownField
+use Rattle.shown_tables.specs.declared.Place.{Place}
+use Rattle.shown_tables.specs.declared.Place.the-variants.{Cells}
+use Rattle.shown_records.specs.Records.{Within, Ahead}
+use Rattle.shown_tables.specs.Places.{PlaceStands}
 
 module _ (from end : ℕ) (f : ShownField) (next : ℕ) (h : Ahead from end f) where
   pub number-ahead : (k : ℕ) → f ≡ ShownField.Number k next → (from < next) × (next ≤ end)

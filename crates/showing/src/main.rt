@@ -4,18 +4,18 @@
 ghost use Prim.Native.Nat.{_+_, _≤_, _<_};
 ghost use mathlib.Core.Path.{_≡_};
 ghost use lib.ListN.{length};
-ghost use Rattle.views.specs.Records.{Within};
+ghost use Rattle.shown_records.specs.Records.{Within};
 use libc::STDOUT_FILENO;
 use runner::Ran;
+use shown_records::Seen;
+use shown_records::ShownField;
+use shown_tables::Place;
 use translator::Translated;
-use views::places::Place;
-use views::records::Seen;
-use views::records::ShownField;
 
 // A cell in the heading.
 fn show_cell(cell: i64) {
     let mut text = [0u8; 25];
-    let n = views::rows::put_cell(&mut text, 0, cell);
+    let n = shown_rows::put_cell(&mut text, 0, cell);
     io::write_all(STDOUT_FILENO, b" ");
     io::write_all(STDOUT_FILENO, &text[0..n]);
 }
@@ -25,7 +25,7 @@ fn show_field(plan: &[u8], at: usize, from: usize, end: usize) -> usize
     requires { ⌜ (at + 2 ≤ from) × (from < end) × (end ≤ length (now plan)) ⌝ }
     ensures { λ r. ⌜ (from < r) × (r ≤ end) ⌝ }
 {
-    let field = views::records::next_field(plan, at, from, end);
+    let field = shown_records::next_field(plan, at, from, end);
     match field {
         ShownField::Number(number, next) => {
             cases::say(b" ", number);
@@ -68,7 +68,7 @@ fn show_row(work: &[i64], at: usize, width: usize)
 {
     let mut text = [0u8; 223];
     let end = at + width;
-    let n = views::rows::put_row(&mut text, &work[at..end]);
+    let n = shown_rows::put_row(&mut text, &work[at..end]);
     io::write_all(STDOUT_FILENO, &text[0..n]);
 }
 
@@ -103,9 +103,9 @@ fn show_table(
     requires { ⌜ (end ≤ length (now plan)) × (length (now plan) ≤ 8192) × (n < 512) × (1 ≤ width) × (width ≤ 6) ⌝ }
     requires { ⌜ (8200 ≤ length (now asked)) × (8192 ≤ length (now work)) ⌝ }
 {
-    let m = views::places::ask(plan, end, n, width, asked);
+    let m = shown_tables::ask(plan, end, n, width, asked);
     let ran = runner::run(&asked[0..m], doc, work);
-    let place = views::places::place_of(ran, width, 8192);
+    let place = shown_tables::place_of(ran, width, 8192);
     match place {
         Place::Cells { start, end } => show_rows(work, start, end, width),
         Place::Nothing => show_none(),
@@ -136,7 +136,7 @@ fn show_operators(plan: &[u8], last: usize, doc: &[u8])
         if last < at {
             return;
         }
-        let seen = views::records::look(plan, at, &widths, n);
+        let seen = shown_records::look(plan, at, &widths, n);
         let Seen::Suited { next, width } = seen else {
             show_refused(plan, at, n, seen);
             return;

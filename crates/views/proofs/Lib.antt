@@ -1,3 +1,0 @@
-pub mod Placing
-pub mod Fielding
-pub mod Lining
