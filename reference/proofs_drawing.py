@@ -56,7 +56,7 @@ GROUPS = [
     Group("the translator", "code", "pen writing adding rules scopes translating translator", "specs",
           (("answered", "its contract: translateCall"),)),
     Group("the evaluator", "code", "working evaluator", "specs", (("answered", "its contract: evaluateCall"),)),
-    Group("the runner", "code", "directory operators laying running runner", "specs",
+    Group("the runner", "code", "directory arms operators laying running runner", "specs",
           (("answered", "its contract: runCall"),)),
     Group("the printed text", "programs",
           "lines answers printing chartask cases shown_tables shown_records shown_rows showing", "specs",

@@ -9,9 +9,6 @@ ghost use Rattle.axes.specs.Steps.{Ready};
 ghost use Rattle.plan_records.specs.Decoded.{operatorOf};
 ghost use Rattle.directory.specs.Directory.{tablesIn, ListedTables};
 ghost use Rattle.directory.specs.Sound.{madeWidth, SoundOperator};
-
-mod arms;
-
 use plan_records::Operator;
 use rowwise::Task;
 use tables::Laid;

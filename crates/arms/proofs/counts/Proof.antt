@@ -1,8 +1,8 @@
 -- `operators::arms::counts` meets its contract.
 use native.Mathlib.Omega.{arith}
 use borrow.Author.Needs.{needs}
-use Rattle.operators.proofs.arms.counts.Statement.{statement}
-use Rattle.operators.proofs.arms.counts.Tie as tie
+use Rattle.arms.proofs.counts.Statement.{statement}
+use Rattle.arms.proofs.counts.Tie as tie
 
 stand-requires : tie.Need-stand-requires
 stand-requires c κs = search needs

@@ -1,8 +1,8 @@
 -- `operators::arms::once` meets its contract.
 use native.Mathlib.Omega.{arith}
 use borrow.Author.Needs.{needs}
-use Rattle.operators.proofs.arms.once.Statement.{statement}
-use Rattle.operators.proofs.arms.once.Tie as tie
+use Rattle.arms.proofs.once.Statement.{statement}
+use Rattle.arms.proofs.once.Tie as tie
 
 stand-requires : tie.Need-stand-requires
 stand-requires c κs = search needs

@@ -1,8 +1,8 @@
 -- `operators::arms::truths` meets its contract.
 use native.Mathlib.Omega.{arith}
 use borrow.Author.Needs.{needs}
-use Rattle.operators.proofs.arms.truths.Statement.{statement}
-use Rattle.operators.proofs.arms.truths.Tie as tie
+use Rattle.arms.proofs.truths.Statement.{statement}
+use Rattle.arms.proofs.truths.Tie as tie
 
 stand-requires : tie.Need-stand-requires
 stand-requires c κs = search needs

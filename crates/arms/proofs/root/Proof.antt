@@ -1,8 +1,8 @@
 -- `operators::arms::root` meets its contract.
 use native.Mathlib.Omega.{arith}
 use borrow.Author.Needs.{needs}
-use Rattle.operators.proofs.arms.root.Statement.{statement}
-use Rattle.operators.proofs.arms.root.Tie as tie
+use Rattle.arms.proofs.root.Statement.{statement}
+use Rattle.arms.proofs.root.Tie as tie
 
 stand-requires : tie.Need-stand-requires
 stand-requires c κs = search needs

@@ -1,8 +1,8 @@
 -- `operators::arms::rowwise` meets its contract.
 use native.Mathlib.Omega.{arith}
 use borrow.Author.Needs.{needs}
-use Rattle.operators.proofs.arms.rowwise.Statement.{statement}
-use Rattle.operators.proofs.arms.rowwise.Tie as tie
+use Rattle.arms.proofs.rowwise.Statement.{statement}
+use Rattle.arms.proofs.rowwise.Tie as tie
 
 stand-requires : tie.Need-stand-requires
 stand-requires c κs = search needs

@@ -1,8 +1,8 @@
 -- `operators::arms::union` meets its contract.
 use native.Mathlib.Omega.{arith}
 use borrow.Author.Needs.{needs}
-use Rattle.operators.proofs.arms.union.Statement.{statement}
-use Rattle.operators.proofs.arms.union.Tie as tie
+use Rattle.arms.proofs.union.Statement.{statement}
+use Rattle.arms.proofs.union.Tie as tie
 
 stand-requires : tie.Need-stand-requires
 stand-requires c κs = search needs

@@ -1,8 +1,8 @@
 -- `operators::arms::steps` meets its contract.
 use native.Mathlib.Omega.{arith}
 use borrow.Author.Needs.{needs}
-use Rattle.operators.proofs.arms.steps.Statement.{statement}
-use Rattle.operators.proofs.arms.steps.Tie as tie
+use Rattle.arms.proofs.steps.Statement.{statement}
+use Rattle.arms.proofs.steps.Tie as tie
 
 stand-requires : tie.Need-stand-requires
 stand-requires c κs = search needs

@@ -1,8 +1,8 @@
 -- `operators::arms::join` meets its contract.
 use native.Mathlib.Omega.{arith}
 use borrow.Author.Needs.{needs}
-use Rattle.operators.proofs.arms.join.Statement.{statement}
-use Rattle.operators.proofs.arms.join.Tie as tie
+use Rattle.arms.proofs.join.Statement.{statement}
+use Rattle.arms.proofs.join.Tie as tie
 
 stand-requires : tie.Need-stand-requires
 stand-requires c κs = search needs

@@ -3,10 +3,10 @@ use Prim.Native.Nat.{ℕ}
 use mathlib.Core.Path.{_∙_, ap, ap₂}
 use mathlib.Core.List.{[], _∷_}
 use native.Mathlib.Omega.{arith}
-use Rattle.operators.proofs.Keyed.{one-column, two-columns}
+use Rattle.arms.proofs.Keyed.{one-column, two-columns}
 use borrow.Author.Needs.{needs}
-use Rattle.operators.proofs.arms.keys.Statement.{statement}
-use Rattle.operators.proofs.arms.keys.Tie as tie
+use Rattle.arms.proofs.keys.Statement.{statement}
+use Rattle.arms.proofs.keys.Tie as tie
 
 byte-requires : tie.Need-byte-requires
 byte-requires c κs = search needs

@@ -3,8 +3,8 @@ use mathlib.Core.Path.{sym}
 use native.Mathlib.Omega.{arith}
 use Rattle.rowwise.specs.Tasks.{Suits, wider}
 use borrow.Author.Needs.{needs}
-use Rattle.operators.proofs.arms.minus.Statement.{statement}
-use Rattle.operators.proofs.arms.minus.Tie as tie
+use Rattle.arms.proofs.minus.Statement.{statement}
+use Rattle.arms.proofs.minus.Tie as tie
 
 stand-requires : tie.Need-stand-requires
 stand-requires c κs = search needs

@@ -1,9 +1,9 @@
 -- `operators::arms::number` meets its contract.
 use native.Mathlib.Omega.{arith}
-use Rattle.operators.proofs.Keyed.{keys-suit, keys-owe}
+use Rattle.arms.proofs.Keyed.{keys-suit, keys-owe}
 use borrow.Author.Needs.{needs}
-use Rattle.operators.proofs.arms.number.Statement.{statement}
-use Rattle.operators.proofs.arms.number.Tie as tie
+use Rattle.arms.proofs.number.Statement.{statement}
+use Rattle.arms.proofs.number.Tie as tie
 
 stand-requires : tie.Need-stand-requires
 stand-requires c κs = search needs
