@@ -49,7 +49,7 @@ GROUPS = [
     Group("the checks", "code", "doc_rows sound_rows catalogue query_records query_walks queries plan_records plans",
           "specs",
           (("answered", "their contracts: catalogueCall, queryCall"),)),
-    Group("items, steps, the stack", "code", "items nodesets axes lent stack", "specs", ()),
+    Group("items, steps, the stack", "code", "items nodesets step_parts forward_axes reverse_axes axes lent stack", "specs", ()),
     Group("the operators", "code", "tables rows rowwise whole joining sorting numbering members stepping groups", "specs",
           (("Owes", "one promise for each operator"),)),
     Group("the translator", "code", "pen writing adding rules scopes translating translator", "specs",

@@ -12,7 +12,7 @@ ghost use Rattle.laws.specs.Rows.{row};
 ghost use Rattle.meaning.specs.Catalogue.{Catalogue, catalogueOf};
 ghost use Rattle.meaning.specs.World.{worldOf};
 ghost use Rattle.meaning.specs.Counted.{adding};
-ghost use Rattle.axes.specs.Steps.{Ready};
+ghost use Rattle.step_parts.specs.Steps.{Ready};
 ghost use Rattle.stack.specs.Stack.{stood, paired, Fit, FitPair, Sums, EndsPair, Ends, At, Leaves, Lent};
 ghost use Rattle.stack.specs.Stack.{raising, joining, besiding, Adds};
 ghost use Rattle.stack.specs.Arms.{rooted, kept, applied, counted, valued, Valued, stepped, Reaches};
