@@ -1,5 +1,5 @@
-// The axes that look back: parent, ancestor and preceding. Each is one pass over the rows, downwards: it takes the marks
-// of the contexts and leaves the marks of the nodes that are reached.
+// The axes that look back: parent, ancestor and preceding. Each is one pass over the rows, downwards: it takes the
+// marks of the contexts and leaves the marks of the nodes that are reached.
 use cells::Rank;
 use codes::Test;
 use step_parts::end_of;

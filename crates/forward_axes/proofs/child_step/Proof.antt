@@ -1,5 +1,5 @@
--- `forward_axes::child_step` meets its contract. The invariant: the flags of the rows before v are those of the step, and at
--- one more than a level `opens` has the mark of the last row before v of that level.
+-- `forward_axes::child_step` meets its contract. The invariant: the flags of the rows before v are those of the step,
+-- and at one more than a level `opens` has the mark of the last row before v of that level.
 use Prim.Native.Nat.{_≤_, _-_, zero-le}
 use mathlib.Core.Path.{_≡_, ap, _∙_}
 use mathlib.Core.Bool.{false}

@@ -1,5 +1,5 @@
--- `forward_axes::descendant_step` meets its contract. The invariant: the flags of the rows before v are those of the step, and
--- `until` is past the last row that the size of a marked row before v covers.
+-- `forward_axes::descendant_step` meets its contract. The invariant: the flags of the rows before v are those of the
+-- step, and `until` is past the last row that the size of a marked row before v covers.
 use Prim.Native.Nat.{_≤_, _-_, zero-le}
 use mathlib.Core.Path.{_≡_}
 use native.Mathlib.Omega.{arith}

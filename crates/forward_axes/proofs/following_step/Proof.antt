@@ -1,5 +1,5 @@
--- `forward_axes::following_step` meets its contract. The invariant: the flags of the rows before v are those of the step, and
--- `least` is the least end of the marked rows before v that have no root after them.
+-- `forward_axes::following_step` meets its contract. The invariant: the flags of the rows before v are those of the
+-- step, and `least` is the least end of the marked rows before v that have no root after them.
 use Prim.Native.Nat.{_≤_, _-_, zero-le}
 use mathlib.Core.Path.{_≡_, sym}
 use native.Mathlib.Omega.{arith}

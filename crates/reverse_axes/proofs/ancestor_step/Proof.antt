@@ -1,5 +1,5 @@
--- `reverse_axes::ancestor_step` meets its contract. The invariant: the flags of the rows from `left` on are those of the
--- step, and `next` is the least marked rank from `left` on.
+-- `reverse_axes::ancestor_step` meets its contract. The invariant: the flags of the rows from `left` on are those of
+-- the step, and `next` is the least marked rank from `left` on.
 use Prim.Native.Nat.{_≤_, _<_, _+_, _-_}
 use mathlib.Core.Path.{_≡_, ap, _∙_}
 use lib.Dec.{leb}

@@ -1,5 +1,5 @@
--- `reverse_axes::parent_step` meets its contract. The invariant: the flags of the rows from `left` on are those of the step,
--- and `waits` has for each level whether a marked row from `left` on has its parent before `left`.
+-- `reverse_axes::parent_step` meets its contract. The invariant: the flags of the rows from `left` on are those of the
+-- step, and `waits` has for each level whether a marked row from `left` on has its parent before `left`.
 use Prim.Native.Nat.{_≤_, _<_, _+_, _-_}
 use mathlib.Core.Path.{_≡_, ap, _∙_}
 use mathlib.Core.Bool.{false}

@@ -1,5 +1,5 @@
--- `reverse_axes::preceding_step` meets its contract. The invariant: the flags of the rows from `left` on are those of the
--- step, and `last` is the greatest marked rank from `left` on with no root from `left` up to it.
+-- `reverse_axes::preceding_step` meets its contract. The invariant: the flags of the rows from `left` on are those of
+-- the step, and `last` is the greatest marked rank from `left` on with no root from `left` up to it.
 use Prim.Native.Nat.{_≤_, _<_, _+_, _-_}
 use mathlib.Core.Path.{_≡_, ap, _∙_}
 use lib.Dec.{ltb}

@@ -1,4 +1,5 @@
--- `step_parts::end_of` meets its contract: sizes are those of a sound catalogue, so the rows that a size covers are there.
+-- `step_parts::end_of` meets its contract: sizes are those of a sound catalogue, so the rows that a size covers are
+-- there.
 use Prim.Native.Nat.{_+_, _<_}
 use native.Mathlib.Omega.{arith}
 use mathlib.Core.Path.{_≡_, sym, _∙_}
