@@ -12,7 +12,7 @@ ghost use Rattle.meaning.specs.Plan.{columns, columnsAt};
 ghost use Rattle.meaning.specs.World.{worldOf};
 ghost use Rattle.tables.specs.Layout.{tableAt, Owes};
 ghost use Rattle.rowwise.specs.Tasks;
-ghost use Rattle.axes.specs.Steps.{Ready};
+ghost use Rattle.step_parts.specs.Steps.{Ready};
 ghost use Rattle.sorting.specs.Order.{columnsOf};
 ghost use Rattle.directory.specs.Directory.{standAt};
 ghost use Rattle.directory.specs.Sound.{TableStands, wide};

@@ -1,13 +1,1 @@
-pub mod Marking
-pub mod Fragments
-pub mod Conditions
-pub mod Descendant
-pub mod Passing
-pub mod Following
-pub mod Ancestor
-pub mod Preceding
-pub mod Parents
-pub mod Child
-pub mod Parent
-pub mod Itself
 pub mod Whole

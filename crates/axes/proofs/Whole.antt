@@ -21,7 +21,7 @@ use Rattle.meaning.specs.World.{onAxis, passes, reached, step}
 use Rattle.doc_rows.specs.Nested.{Nested}
 use Rattle.doc_rows.specs.Sound.{Sound}
 use Rattle.nodesets.specs.declared.Marked.the-variants.{AllNodes, NotANode}
-use Rattle.axes.specs.Steps.{Known, Step}
+use Rattle.step_parts.specs.Steps.{Known, Step}
 use Rattle.nodesets.specs.Nodes.{ranks}
 use Rattle.nodesets.specs.Nodes.{MarkSet, FromAll}
 use Rattle.nodesets.proofs.Ranks.{below-same}

@@ -32,7 +32,7 @@ use Rattle.catalogue.specs.declared.Checked.{Checked as Catalogued}
 use Rattle.catalogue.specs.declared.Checked.the-variants as Catalogued
 use Rattle.catalogue.specs.Answers as Answers
 use Rattle.catalogue.proofs.Accepted.{accepted, accepted-sound, unsound}
-use Rattle.axes.specs.Steps.{Known}
+use Rattle.step_parts.specs.Steps.{Known}
 use Rattle.stack.specs.declared.Stood.{Stood}
 use Rattle.stack.specs.declared.Stood.the-variants as Stood
 use Rattle.stack.specs.Stack.{stood, Fit}

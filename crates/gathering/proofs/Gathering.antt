@@ -28,7 +28,7 @@ use Rattle.laws.specs.Attempt.{Attempt, fails, gives, attempt}
 use Rattle.meaning.specs.Catalogue.{Catalogue}
 use Rattle.meaning.specs.World.{World, worldOf, rankOf, ranksOf, reached, step, truth}
 use Rattle.meaning.specs.Operators.{Row, Table, cell, column, groups, groupOf, itemsInOrder, counts, truths, steps}
-use Rattle.axes.specs.Steps.{Ready}
+use Rattle.step_parts.specs.Steps.{Ready}
 use Rattle.tables.specs.declared.Stand.{Stand}
 use Rattle.tables.specs.declared.Laid.{Laid}
 use Rattle.tables.specs.Layout.{tableAt, Inside, Owes}

@@ -15,7 +15,7 @@ use Rattle.cells.specs.Cell.{truthCell}
 use Rattle.laws.specs.Attempt.{Attempt, gives, attempt, each}
 use Rattle.meaning.specs.World.{World}
 use Rattle.meaning.specs.Operators.{Table, column, groups, groupOf, itemsInOrder}
-use Rattle.axes.specs.Steps.{Ready}
+use Rattle.step_parts.specs.Steps.{Ready}
 use Rattle.gathering.specs.declared.Gather.{Gather}
 use Rattle.gathering.specs.declared.Gather.the-variants.{Count, Truth, Step}
 use Rattle.members.specs.Grouped.{opening}

@@ -7,7 +7,7 @@ ghost use Rattle.laws.specs.Attempt.{gives};
 ghost use Rattle.meaning.specs.Catalogue.{catalogueOf};
 ghost use Rattle.meaning.specs.Operators;
 ghost use Rattle.meaning.specs.World.{worldOf};
-ghost use Rattle.axes.specs.Steps.{Ready};
+ghost use Rattle.step_parts.specs.Steps.{Ready};
 ghost use Rattle.tables.specs.Layout.{tableAt, Inside, Owes};
 use codes::Axis;
 use codes::Test;

@@ -4,7 +4,7 @@ ghost use lib.ListN.{length};
 ghost use Rattle.meaning.specs.Catalogue.{catalogueOf};
 ghost use Rattle.meaning.specs.Operators.{make};
 ghost use Rattle.meaning.specs.World.{worldOf};
-ghost use Rattle.axes.specs.Steps.{Ready};
+ghost use Rattle.step_parts.specs.Steps.{Ready};
 ghost use Rattle.plan_records.specs.Decoded.{operatorOf};
 ghost use Rattle.directory.specs.Directory.{tablesIn, ListedTables};
 ghost use Rattle.directory.specs.Sound.{madeWidth, SoundOperator};

@@ -28,7 +28,7 @@ use Rattle.catalogue.specs.declared.Checked.{Checked as Catalogued}
 use Rattle.catalogue.specs.declared.Checked.the-variants as Catalogued
 use Rattle.catalogue.specs.Answers as Answers
 use Rattle.catalogue.proofs.Accepted as Catalogues
-use Rattle.axes.specs.Steps.{Known}
+use Rattle.step_parts.specs.Steps.{Known}
 use Rattle.plans.specs.declared.Checked.{Checked as Planned}
 use Rattle.plans.specs.declared.Checked.the-variants as Planned
 use Rattle.plans.specs.Walk.{checked, planCount}

@@ -21,7 +21,7 @@ use Rattle.meaning.specs.Run.{running}
 use Rattle.meaning.specs.World.{World}
 use Rattle.tables.specs.declared.Laid.the-variants as Laid
 use Rattle.tables.specs.Layout.{Owes}
-use Rattle.axes.specs.Steps.{Ready}
+use Rattle.step_parts.specs.Steps.{Ready}
 use Rattle.plan_records.specs.declared.Decoded.{Decoded}
 use Rattle.plan_records.specs.declared.Reading.{Reading as Read}
 use Rattle.plan_records.specs.declared.Reading.the-variants as Read

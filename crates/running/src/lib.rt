@@ -6,7 +6,7 @@ ghost use lib.ListN.{length};
 ghost use Rattle.meaning.specs.Calls.{room};
 ghost use Rattle.meaning.specs.Catalogue.{catalogueOf};
 ghost use Rattle.meaning.specs.World.{worldOf};
-ghost use Rattle.axes.specs.Steps.{Known, Ready};
+ghost use Rattle.step_parts.specs.Steps.{Known, Ready};
 ghost use Rattle.running.specs.Leaving.{Walks, AcceptedPlan, carriedOut, refusedAt};
 use directory::stand;
 use laying::Turned;

@@ -22,7 +22,7 @@ use Rattle.meaning.specs.World.{worldOf}
 use Rattle.meaning.specs.Counted.{adding}
 use Rattle.nodesets.specs.declared.Marked.{Marked}
 use Rattle.nodesets.specs.declared.Marked.the-variants.{AllNodes, NotANode}
-use Rattle.axes.specs.Steps.{Step}
+use Rattle.step_parts.specs.Steps.{Step}
 use Rattle.nodesets.specs.Nodes.{ranks}
 use Rattle.nodesets.specs.Nodes.{FromAll}
 use Rattle.axes.proofs.Whole.{step-gives, step-fails}

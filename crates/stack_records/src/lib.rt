@@ -11,7 +11,7 @@ ghost use Prim.Native.Nat.{ℕ, _+_, _-_, _*_, _≤_, _<_};
 ghost use lib.ListN.{length};
 ghost use Rattle.meaning.specs.Catalogue.{Catalogue, catalogueOf};
 ghost use Rattle.meaning.specs.World.{worldOf};
-ghost use Rattle.axes.specs.Steps.{Ready};
+ghost use Rattle.step_parts.specs.Steps.{Ready};
 ghost use Rattle.stack.specs.Stack.{stood, paired, Fit, FitPair, EndsPair, Ends, At, Leaves, Lent};
 ghost use Rattle.stack_records.specs.Arms.{rooted, applied, valued, Valued, stepped, Reaches};
 

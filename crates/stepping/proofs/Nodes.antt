@@ -26,7 +26,7 @@ use Rattle.meaning.specs.World.{ranksOf}
 use Rattle.meaning.specs.Operators.{Row, Table, cell, column, groupOf}
 use Rattle.nodesets.specs.declared.Marked.{Marked}
 use Rattle.nodesets.specs.declared.Marked.the-variants.{AllNodes, NotANode}
-use Rattle.axes.specs.Steps.{Step}
+use Rattle.step_parts.specs.Steps.{Step}
 use Rattle.nodesets.specs.Nodes.{ranks}
 use Rattle.nodesets.specs.Nodes.{MarkSet, FromOne, FromAll, rowsOf}
 use Rattle.nodesets.proofs.Nodes.{marked-none, one-more, one-fails}

@@ -8,7 +8,7 @@ ghost use Rattle.laws.specs.Attempt.{gives, attempt};
 ghost use Rattle.meaning.specs.Catalogue.{Catalogue, catalogueOf};
 ghost use Rattle.meaning.specs.Operators.{cell, column, groupOf};
 ghost use Rattle.meaning.specs.World;
-ghost use Rattle.axes.specs.Steps.{Ready};
+ghost use Rattle.step_parts.specs.Steps.{Ready};
 ghost use Rattle.nodesets.specs.Nodes.{FromAll};
 ghost use Rattle.tables.specs.Layout.{tableAt, Inside, Owes};
 ghost use Rattle.members.specs.Grouped.{inFront};

@@ -15,7 +15,7 @@ ghost use Rattle.meaning.specs.World.{worldOf};
 ghost use Rattle.meaning.specs.Counted.{adding};
 ghost use Rattle.meaning.specs.Query;
 ghost use Rattle.query_walks.specs.Parse.{parse, trees};
-ghost use Rattle.axes.specs.Steps.{Known};
+ghost use Rattle.step_parts.specs.Steps.{Known};
 ghost use Rattle.stack.specs.Stack.{stood, Fit, Ends, At, Leaves, Lent};
 ghost use Rattle.stack_records.specs.Arms.{stepped};
 ghost use Rattle.working.specs.Evaluating.{endingAt, Works, Branches, Pairs, Turns};

@@ -1,0 +1,3 @@
+pub mod Parent
+pub mod Ancestor
+pub mod Preceding

@@ -1,0 +1,4 @@
+pub mod Marking
+pub mod Fragments
+pub mod Conditions
+pub mod Passing
