@@ -11,7 +11,8 @@ use Rattle.meaning.specs.World.{worldOf}
 use Rattle.items.specs.Answers.{tried}
 use Rattle.stack.proofs.Leaving.{put-at}
 use native.Mathlib.Omega.{arith}
-use Rattle.stack_records.proofs.Applying.{sides-many, sides-more, sides-none, sides-nothing, sides-fail, sides-both}
+use Rattle.stack_records.proofs.Applying.{sides-many, sides-more, sides-none, sides-nothing, sides-fail}
+use Rattle.stack_records.proofs.Applying.{sides-both}
 use borrow.Author.Needs.{needs}
 use Rattle.stack_records.proofs.function.Statement.{statement}
 use Rattle.stack_records.proofs.function.Tie as tie
