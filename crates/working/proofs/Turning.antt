@@ -235,8 +235,8 @@ module _ (w : World) (rd : ℕ → Parsed) (place at v top room : ℕ) (s : Scop
   for-turned l k n end last after m p r q sc le worked past u b =
       let g : Works w (rd at) top room s before mid (Stood.Items l k n) =
       subst (λ (m : Stood). Works w (rd at) top room s before mid m) q worked in
-      works-leaves w _ top room s before after last r (Moves.kept (paired last top p)) (EndsPair p) b (u .kept
-      ∙ g .kept)
+      works-leaves w _ top room s before after last r (Moves.kept (paired last top p)) (EndsPair p) b
+      (u .kept ∙ g .kept)
       (λ e h z c.
       let (x, y, i, j, d) = pair-gives (QF place v) (rd at) rd z c in
       let first = g .means e h x i in
