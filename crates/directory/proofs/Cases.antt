@@ -17,13 +17,13 @@ use Rattle.tables.specs.declared.Laid.{Laid}
 use Rattle.tables.specs.Layout.{Owes}
 use Rattle.plan_records.specs.declared.Decoded.{Decoded}
 use Rattle.plan_records.specs.declared.Operator.{Operator}
-use Rattle.plans.specs.declared.widths.TableOperands.{TableOperands}
-use Rattle.plans.specs.declared.widths.TableOperands.the-variants.{None, Of}
+use Rattle.plan_widths.specs.declared.TableOperands.{TableOperands}
+use Rattle.plan_widths.specs.declared.TableOperands.the-variants.{None, Of}
 use Rattle.plans.specs.Accepted.{Turn}
 use Rattle.plan_records.specs.Decoded.{operatorOf}
 use Rattle.theorems.specs.PlanRead.{widthsOf}
-use Rattle.plans.specs.Widths as Widths
-use Rattle.plans.specs.Widths.{tablesOf}
+use Rattle.plan_widths.specs.Widths as Widths
+use Rattle.plan_widths.specs.Widths.{tablesOf}
 use Rattle.plans.proofs.Callers.{no-table, turn-fitting}
 use Rattle.directory.specs.Directory.{widthsIn, ListedTables}
 use Rattle.directory.specs.Sound.{TableStands, wide, madeOf, madeWidth, SoundOf, SoundOperator, Served}

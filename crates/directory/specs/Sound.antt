@@ -9,10 +9,10 @@ use mathlib.Core.List.{List}
 use lib.ListN.{length}
 use Rattle.tables.specs.Layout.{Inside}
 use Rattle.plan_records.specs.declared.Operator.{Operator}
-use Rattle.plans.specs.declared.widths.TableOperands.{TableOperands}
-use Rattle.plans.specs.declared.widths.TableOperands.the-variants.{None, Of}
+use Rattle.plan_widths.specs.declared.TableOperands.{TableOperands}
+use Rattle.plan_widths.specs.declared.TableOperands.the-variants.{None, Of}
 use Rattle.plans.specs.Accepted.{Suited}
-use Rattle.plans.specs.Widths as Widths
+use Rattle.plan_widths.specs.Widths as Widths
 use Rattle.directory.specs.Directory.{standAt, ListedTables}
 
 pub record TableStands (dir : List ℕ) (top t : ℕ) : Type 0 where

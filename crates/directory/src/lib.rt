@@ -5,7 +5,7 @@ ghost use lib.ListN.{length};
 ghost use Rattle.directory.specs.Directory.{standAt, entered};
 ghost use Rattle.directory.specs.Sound.{madeWidth, Served};
 use plan_records::Operator;
-use plans::widths::TableOperands;
+use plan_widths::TableOperands;
 use tables::Stand;
 
 // Where table t stands.
@@ -44,9 +44,9 @@ pub fn width(directory: &[usize], operator: Operator) -> usize
     requires { ⌜ Served (now directory) operator ⌝ }
     ensures { λ r. ⌜ r ≡ madeWidth (now (directory .entry)) operator ⌝ }
 {
-    let named = plans::widths::tables(operator);
+    let named = plan_widths::tables(operator);
     let TableOperands::Of(t, u) = named else {
         return 1;
     };
-    plans::widths::made_width(operator, wide(directory, t), wide(directory, u))
+    plan_widths::made_width(operator, wide(directory, t), wide(directory, u))
 }

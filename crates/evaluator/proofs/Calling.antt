@@ -39,8 +39,8 @@ use Rattle.stack.specs.Stack.{stood, Fit}
 use Rattle.evaluator.specs.declared.Evaluated.{Evaluated}
 use Rattle.evaluator.specs.Answers.{answered, refusing, unsounding, concluding, standing}
 use Rattle.working.specs.Evaluating.{Works}
-use Rattle.working.specs.Scopes.{unbound}
-use Rattle.working.proofs.Scoping.{holds-nothing}
+use Rattle.working_parts.specs.Scopes.{unbound}
+use Rattle.working_parts.proofs.Scoping.{holds-nothing}
 
 -- the answer, and what is left in the cells
 abbrev Called : Outcome ℤ → List ℤ → Evaluated → Type 0

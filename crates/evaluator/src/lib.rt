@@ -1,7 +1,7 @@
 // The step-by-step evaluator: the checks, the work of crates/working, and the answer.
 use codes::limits::LEVELS;
 use stack::Stood;
-use working::Scope;
+use working_parts::Scope;
 ghost use mathlib.Core.Path.{_≡_};
 ghost use lib.ListN.{length};
 ghost use Rattle.meaning.specs.Calls.{evaluateCall};

@@ -24,7 +24,7 @@ use Rattle.whole.proofs.Makes.{makes-RT, makes-RU, makes-RK, makes-RO}
 use Rattle.plan_records.specs.declared.Operator.{Operator}
 use Rattle.plan_records.specs.declared.Operator.the-variants as Operator
 use Rattle.plan_records.specs.Decoded.{operatorOf}
-use Rattle.plans.specs.Widths as Widths
+use Rattle.plan_widths.specs.Widths as Widths
 use Rattle.directory.specs.Directory.{standAt, tablesIn}
 use Rattle.directory.proofs.Entries.{table-of}
 use Rattle.directory.specs.Sound.{wide, madeOf, madeWidth, SoundOf, SoundOperator}

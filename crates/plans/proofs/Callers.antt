@@ -35,15 +35,15 @@ use Rattle.plan_records.specs.declared.Reading.{Reading as Read}
 use Rattle.plan_records.specs.declared.Reading.the-variants as Read
 use Rattle.plans.specs.declared.Checked.{Checked}
 use Rattle.plans.specs.declared.Checked.the-variants.{Operators, Unsound}
-use Rattle.plans.specs.declared.widths.TableOperands.the-variants.{None, Of}
+use Rattle.plan_widths.specs.declared.TableOperands.the-variants.{None, Of}
 use Rattle.plan_records.specs.Decoded.{operatorOf, ColumnsStand, Means}
-use Rattle.plans.specs.Widths.{tablesOf, suitable, madeWidth}
+use Rattle.plan_widths.specs.Widths.{tablesOf, suitable, madeWidth}
 use Rattle.plans.specs.Walk.{checked, planCount}
 use Rattle.theorems.specs.PlanRead.{widthsOf}
 use Rattle.plans.specs.Accepted.{Suited, Fitting, Ahead, Turn, placed}
 use Rattle.plan_records.proofs.Columns.{columns-length}
 use Rattle.plan_records.proofs.Fields.{operator-ends}
-use Rattle.plans.proofs.Ordered.{widthBy, width-by}
+use Rattle.plan_widths.proofs.Ordered.{widthBy, width-by}
 use Rattle.plans.proofs.Walking.{walk-start, walk-end, walk-excess, walk-bad, walk-on, unplaced, misplaced}
 use Rattle.plans.proofs.Walking.{widths-more, widths-length}
 use Rattle.plans.proofs.Ending.{unread, found, found-stands, last-each}

@@ -22,10 +22,10 @@ use Rattle.plan_records.specs.declared.Decoded.{Decoded}
 use Rattle.plan_records.specs.declared.Reading.{Reading as Read}
 use Rattle.plan_records.specs.declared.Reading.the-variants as Read
 use Rattle.plans.specs.declared.Checked.the-variants.{Operators, Unsound}
-use Rattle.plans.specs.declared.widths.Width.{Width as Found}
-use Rattle.plans.specs.declared.widths.Width.the-variants as Found
+use Rattle.plan_widths.specs.declared.Width.{Width as Found}
+use Rattle.plan_widths.specs.declared.Width.the-variants as Found
 use Rattle.plan_records.specs.Decoded.{operatorOf, readingOf, ColumnsStand, ReadingStands, Means}
-use Rattle.plans.specs.Widths.{widthField}
+use Rattle.plan_widths.specs.Widths.{widthField}
 use Rattle.plans.specs.Walk.{checked, planCount, lastAt, Walk, Checking}
 use Rattle.theorems.specs.PlanRead.{widthsOf}
 use Rattle.cells.specs.Bytes.{Bytes}

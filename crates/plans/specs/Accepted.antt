@@ -19,7 +19,7 @@ use Rattle.plan_records.specs.declared.Operator.{Operator}
 use Rattle.plan_records.specs.declared.Operator.the-variants as Operator
 use Rattle.plan_records.specs.declared.Decoded.{Decoded}
 use Rattle.plan_records.specs.Decoded.{operatorOf, ColumnsStand}
-use Rattle.plans.specs.Widths.{madeWidth}
+use Rattle.plan_widths.specs.Widths.{madeWidth}
 use Rattle.plans.specs.Walk.{Walk}
 use Rattle.theorems.specs.PlanRead.{widthsOf}
 

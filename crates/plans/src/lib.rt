@@ -1,11 +1,9 @@
 // The plan check: the operators of a plan from left to right, and the widths of their tables.
-pub mod widths;
-
-use crate::widths::Width;
-use crate::widths::width_of;
 use codes::limits::OPERATORS;
 use plan_records::Reading;
 use plan_records::read;
+use plan_widths::Width;
+use plan_widths::width_of;
 ghost use mathlib.Core.Path.{_≡_};
 ghost use lib.ListN.{length};
 ghost use Rattle.plans.specs.Walk.{checked, planCount};

@@ -1,4 +1,5 @@
-// The rules of the translation within one iteration: the operators that a record adds to those of its operands.
+// The rules of the translation within one iteration that come behind operands: the operators that a record, and the
+// whole query, adds to those of its operands.
 use adding::Operator;
 use adding::Output;
 use adding::Pen;
@@ -12,55 +13,8 @@ ghost use mathlib.Core.Path.{_≡_};
 ghost use mathlib.Core.List.{[], _∷_};
 ghost use Prim.Native.Nat.{_+_, _<_};
 ghost use lib.IntN.{pos};
-ghost use Rattle.meaning.specs.Translation.{Made, ruleL, ruleR, ruleE, tailS, tailO, tailC, tailD};
-ghost use Rattle.meaning.specs.Translation.{tailX, tailLast};
+ghost use Rattle.meaning.specs.Translation.{Made, tailS, tailO, tailC, tailD, tailX, tailLast};
 ghost use Rattle.adding.specs.Ruled.{PenRoom, Wrote, Ruled};
-
-// QL, QB: attach 1 to the loop's table l, attach the cell.
-pub fn literal(plan: &mut [u8], pen: Pen, l: usize, cell: i64, next: usize) -> Output
-    requires { ⌜ PenRoom pen 2 ⌝ }
-    ensures { λ r. ⌜ Ruled (ruleL (pen .operators) l cell) next (now (plan .entry)) pen (now (plan .exit)) r ⌝ }
-{
-    let n = pen.operators;
-    let p = add(plan, pen, Operator::Attach(l, 1));
-    let q = add(plan, p, Operator::Attach(n, cell));
-    Output {
-        table: n + 1,
-        pen: q,
-        next,
-    }
-}
-
-// QR: attach 1, the root of fragment k.
-pub fn root(plan: &mut [u8], pen: Pen, l: usize, k: u8, next: usize) -> Output
-    requires { ⌜ PenRoom pen 2 ⌝ }
-    ensures { λ r. ⌜ Ruled (ruleR (pen .operators) l k) next (now (plan .entry)) pen (now (plan .exit)) r ⌝ }
-{
-    let n = pen.operators;
-    let p = add(plan, pen, Operator::Attach(l, 1));
-    let q = add(plan, p, Operator::Root(n, k));
-    Output {
-        table: n + 1,
-        pen: q,
-        next,
-    }
-}
-
-// QE: attach 1, attach 0, that minus itself.
-pub fn empty(plan: &mut [u8], pen: Pen, l: usize, next: usize) -> Output
-    requires { ⌜ PenRoom pen 3 ⌝ }
-    ensures { λ r. ⌜ Ruled (ruleE (pen .operators) l) next (now (plan .entry)) pen (now (plan .exit)) r ⌝ }
-{
-    let n = pen.operators;
-    let p = add(plan, pen, Operator::Attach(l, 1));
-    let q = add(plan, p, Operator::Attach(n, 0));
-    let r = add(plan, q, Operator::Minus(n + 1, n + 1));
-    Output {
-        table: n + 2,
-        pen: r,
-        next,
-    }
-}
 
 // QS, after its operands: attach 1 to a, 2 to b; union; number by p 0, keys 3, 1; project 0 4 2.
 pub fn sequence_tail(plan: &mut [u8], pen: Pen, a: usize, b: usize, next: usize) -> Output

@@ -13,7 +13,7 @@ use codes::marks::RJ;
 use codes::marks::RU;
 use codes::marks::RX;
 use plan_records::Reading;
-use plans::widths::Width;
+use plan_widths::Width;
 
 // What stands at an offset: a record and the offset after it, with the width of its table; a record that does
 // not suit the tables before it; or no record.
@@ -43,7 +43,7 @@ pub fn look(plan: &[u8], at: usize, widths: &[u8], n: usize) -> Seen
     };
     let operator = found.operator;
     let next = found.next;
-    let Width::Is(width) = plans::widths::width_of(plan, operator, widths, n) else {
+    let Width::Is(width) = plan_widths::width_of(plan, operator, widths, n) else {
         return Seen::Unsuited(next);
     };
     match width {

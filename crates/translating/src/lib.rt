@@ -44,9 +44,9 @@ pub fn expression(
     let next = found.next;
     let left = depth - 1;
     match kind {
-        Record::Literal(item) => rules::literal(plan, pen, l, cells::cell_of(item), next),
-        Record::Empty => rules::empty(plan, pen, l, next),
-        Record::Root(k) => rules::root(plan, pen, l, k as u8, next),
+        Record::Literal(item) => leaf_rules::literal(plan, pen, l, cells::cell_of(item), next),
+        Record::Empty => leaf_rules::empty(plan, pen, l, next),
+        Record::Root(k) => leaf_rules::root(plan, pen, l, k as u8, next),
         Record::Variable(v) => variable(tables, v, pen, next),
         Record::Sequence => sequence(query, next, left, l, tables, pen, plan),
         Record::Let(v) => let_in(query, next, left, l, tables, pen, plan, v),

@@ -26,10 +26,11 @@ use Rattle.stack.specs.Stack.{stood, Ends, At, raising, Leaves}
 use Rattle.stack.specs.Moves.{raised}
 use Rattle.stack.proofs.Leaving.{leaves-raised}
 use Rattle.stack.proofs.Stood.{the-type}
-use Rattle.working.specs.declared.Scope.{Scope}
-use Rattle.working.specs.Scopes.{Scoped, HoldsEnv}
-use Rattle.working.specs.Evaluating.{endingAt, Works, Branches}
-use Rattle.working.proofs.Scoping.{holds-kept}
+use Rattle.working_parts.specs.declared.Scope.{Scope}
+use Rattle.working_parts.specs.Scopes.{Scoped, HoldsEnv}
+use Rattle.working_parts.specs.Endings.{endingAt}
+use Rattle.working.specs.Evaluating.{Works, Branches}
+use Rattle.working_parts.proofs.Scoping.{holds-kept}
 use Rattle.working.proofs.Working.{works-leaves, works-stopped}
 
 -- what an operand leaves, and the same with another end

@@ -1,4 +1,3 @@
-pub mod Scoping
 pub mod Working
 pub mod Pairing
 pub mod Turning

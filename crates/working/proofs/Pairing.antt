@@ -26,11 +26,11 @@ use Rattle.stack.specs.Stack.{Paired, stood, paired, Fit, FitPair, Ends, EndsPa
 use Rattle.stack.specs.Moves.{pairing}
 use Rattle.lent.proofs.Moves.{row-kept}
 use Rattle.stack.proofs.Stood.{the-type}
-use Rattle.working.specs.declared.Scope.{Scope}
-use Rattle.working.specs.declared.Binding.{Binding}
-use Rattle.working.specs.Scopes.{Scoped, Bindable, scoping, binding}
+use Rattle.working_parts.specs.declared.Scope.{Scope}
+use Rattle.working_parts.specs.declared.Binding.{Binding}
+use Rattle.working_parts.specs.Scopes.{Scoped, Bindable, scoping, binding}
 use Rattle.working.specs.Evaluating.{Works, behind, both, Pairs}
-use Rattle.working.proofs.Scoping.{holds-kept, holds-bound}
+use Rattle.working_parts.proofs.Scoping.{holds-kept, holds-bound}
 
 -- the second operand's items behind those of the first
 abbrev onto : List ℤ → ℕ → Standing → Work Paired

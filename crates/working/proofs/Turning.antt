@@ -38,11 +38,11 @@ use Rattle.stack.specs.Moves as Moves
 use Rattle.stack.proofs.Leaving.{row-append}
 use Rattle.lent.proofs.Moves.{row-kept}
 use Rattle.stack.proofs.Stood.{the-type}
-use Rattle.working.specs.declared.Scope.{Scope}
-use Rattle.working.specs.declared.Binding.the-variants.{Variable}
-use Rattle.working.specs.Scopes.{Scoped, HoldsEnv, scoping, binding}
+use Rattle.working_parts.specs.declared.Scope.{Scope}
+use Rattle.working_parts.specs.declared.Binding.the-variants.{Variable}
+use Rattle.working_parts.specs.Scopes.{Scoped, HoldsEnv, scoping, binding}
 use Rattle.working.specs.Evaluating.{Works, turn, Turns}
-use Rattle.working.proofs.Scoping.{scoped-more, scoped-bound, holds-kept, holds-bound}
+use Rattle.working_parts.proofs.Scoping.{scoped-more, scoped-bound, holds-kept, holds-bound}
 use Rattle.working.proofs.Pairing.{take-lower}
 use Rattle.working.proofs.Working.{works-leaves, works-stopped}
 

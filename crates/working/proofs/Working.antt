@@ -39,10 +39,10 @@ use Rattle.stack.specs.Moves.{raised, pairing, joined, kept, counted}
 use Rattle.stack_records.specs.Arms.{applied, valued, stepped}
 use Rattle.stack.proofs.Leaving.{stood-joined}
 use Rattle.stack.proofs.Stood.{the-type}
-use Rattle.working.specs.declared.Scope.{Scope}
-use Rattle.working.specs.declared.Binding.{Binding}
-use Rattle.working.specs.declared.Binding.the-variants.{Nothing, Variable}
-use Rattle.working.specs.Scopes.{HoldsEnv, binding}
+use Rattle.working_parts.specs.declared.Scope.{Scope}
+use Rattle.working_parts.specs.declared.Binding.{Binding}
+use Rattle.working_parts.specs.declared.Binding.the-variants.{Nothing, Variable}
+use Rattle.working_parts.specs.Scopes.{HoldsEnv, binding}
 use Rattle.working.specs.Evaluating.{Works, behind, both, Pairs}
 
 pub fit-wider : (top room wider : ℕ) (r : Stood) → room ≤ wider → Fit top room r → Fit top wider r

@@ -1,5 +1,4 @@
 -- What working out a part of a query promises (document 01, 'Query records', 'Room').
---     endingAt n r               the same answer, its operand ending at n
 --     behind w room e b q s      the evaluation of q behind what stands as s, which binding b binds
 --     both w room e b p q        the evaluation of p, and of q behind it
 --     Is o e top cells r         answer r, read from the cells, is outcome o, and its tree ends at offset e
@@ -26,20 +25,13 @@ use Rattle.meaning.specs.Meaning.{Env, bind}
 use Rattle.meaning.specs.Counted.{Standing, evaluate, loop}
 use Rattle.query_walks.specs.Parse.{Parsed}
 use Rattle.stack.specs.declared.Stood.{Stood}
-use Rattle.stack.specs.declared.Stood.the-variants as Stood
 use Rattle.stack.specs.declared.Pair.{Pair}
 use Rattle.stack.specs.Stack.{Paired, stood, paired, Fit, FitPair, Ends, EndsPair}
 use Rattle.stack.specs.Moves.{pairing}
 use Rattle.stack.specs.Moves as Moves
-use Rattle.working.specs.declared.Scope.{Scope}
-use Rattle.working.specs.declared.Binding.{Binding}
-use Rattle.working.specs.Scopes.{HoldsEnv, binding}
-
--- the other branch of a choice is passed over
-unfoldable pub endingAt : ℕ → Stood → Stood
-endingAt n (Stood.Items l k m) = Stood.Items l k n
-endingAt n (Stood.Full p) = Stood.Full p
-endingAt n (Stood.Failed p) = Stood.Failed p
+use Rattle.working_parts.specs.declared.Scope.{Scope}
+use Rattle.working_parts.specs.declared.Binding.{Binding}
+use Rattle.working_parts.specs.Scopes.{HoldsEnv, binding}
 
 pub record Is (o : Work Standing) (e top : ℕ) (cells : List ℤ) (r : Stood) : Type 0 where
   pub stands : stood cells top r ≡ o

@@ -1,7 +1,7 @@
 -- `evaluate` meets its contract: query, then catalogue, then work.
 use native.Mathlib.Omega.{arith}
 use Rattle.meaning.specs.Calls.{room}
-use Rattle.working.proofs.Scoping.{scoped-nothing}
+use Rattle.working_parts.proofs.Scoping.{scoped-nothing}
 use Rattle.evaluator.proofs.Calling.{call-refused, call-unsound, known-accepted, left-within, call-concluded}
 use borrow.Author.Needs.{needs}
 use Rattle.evaluator.proofs.evaluate.Statement.{statement}

@@ -5,7 +5,7 @@ use mir.Val.{SFits}
 use mir.Facts.{toZ-ofZ}
 use Rattle.rowwise.specs.Tasks.{Suits, wider}
 use Rattle.plans.specs.Accepted.{Suited}
-use Rattle.plans.specs.Widths.{tablesOf}
+use Rattle.plan_widths.specs.Widths.{tablesOf}
 use Rattle.directory.specs.Sound.{SoundOf, SoundOperator}
 use Rattle.directory.proofs.Cases.{sound-case, listed}
 use Rattle.operators.proofs.Performed.{one-made, attach-made, project-made, union-made, minus-made}

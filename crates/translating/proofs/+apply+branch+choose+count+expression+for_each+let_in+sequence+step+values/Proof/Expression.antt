@@ -30,10 +30,10 @@ use Rattle.translating.proofs as parts
 use parts.+apply+branch+choose+count+expression+for_each+let_in+sequence+step+values as cycle
 use cycle.Lts-expression as expression-lts
 use Rattle.cells.proofs.cell_of.Reads as cell-of-reads
-use Rattle.rules.proofs.empty.Reads as empty-reads
-use Rattle.rules.proofs.literal.Reads as literal-reads
+use Rattle.leaf_rules.proofs.empty.Reads as empty-reads
+use Rattle.leaf_rules.proofs.literal.Reads as literal-reads
 use Rattle.query_records.proofs.read.Reads as read-reads
-use Rattle.rules.proofs.root.Reads as root-reads
+use Rattle.leaf_rules.proofs.root.Reads as root-reads
 use Rattle.translating.proofs.variable.Reads as variable-reads
 use cycle.Proof.Measures.{expression-at, apply-below, choose-below, count-below, for-each-below, let-in-below}
 use cycle.Proof.Measures.{sequence-below, step-below, values-below}

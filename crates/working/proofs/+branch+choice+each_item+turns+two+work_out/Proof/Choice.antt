@@ -14,8 +14,8 @@ use Rattle.working.proofs.branch.Reads as branch
 use Rattle.working.proofs.+branch+choice+each_item+turns+two+work_out.Lts-choice as choice-lts
 use Rattle.items.proofs.truth.Reads as truth-reads
 use Rattle.query_walks.proofs.skip.Reads as skip-reads
-use Rattle.working.proofs.selected.Reads as selected-reads
-use Rattle.working.proofs.ending.Reads as ending-reads
+use Rattle.working_parts.proofs.selected.Reads as selected-reads
+use Rattle.working_parts.proofs.ending.Reads as ending-reads
 use Rattle.stack.proofs.raise.Reads as raise-reads
 use Rattle.working.proofs.+branch+choice+each_item+turns+two+work_out.Proof.Measures.{choice-at}
 use Rattle.working.proofs.+branch+choice+each_item+turns+two+work_out.Proof.Measures.{work-out-below}

@@ -6,7 +6,7 @@ use Rattle.stack.specs.Stack.{Fit}
 use Rattle.meaning.specs.Catalogue.{catalogueOf}
 use Rattle.meaning.specs.World.{worldOf}
 use Rattle.query_walks.specs.Parse.{parse}
-use Rattle.working.specs.Scopes.{Scoped}
+use Rattle.working_parts.specs.Scopes.{Scoped}
 use Rattle.working.proofs.Pairing.{adds-stopped}
 use Rattle.working.proofs.Turning.{Turning, turning-start, turning-scoped, turning-on, turning-stopped}
 use Rattle.working.proofs.Turning.{turning-end}
@@ -14,7 +14,7 @@ use borrow.Author.Needs.{needs}
 use Rattle.working.proofs.turns.Reads as turns
 use Rattle.working.proofs.work_out.Reads as work-out
 use Rattle.working.proofs.+branch+choice+each_item+turns+two+work_out.Lts-turns as turns-lts
-use Rattle.working.proofs.bound.Reads as bound-reads
+use Rattle.working_parts.proofs.bound.Reads as bound-reads
 use Rattle.stack.proofs.beside.Reads as beside-reads
 use Rattle.stack.proofs.larger.Reads as larger-reads
 use Rattle.working.proofs.+branch+choice+each_item+turns+two+work_out.Proof.Measures.{turns-at, work-out-below}

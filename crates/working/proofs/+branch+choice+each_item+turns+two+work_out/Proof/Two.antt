@@ -3,15 +3,15 @@ use Prim.Native.Nat.{ℕ, _+_, _-_, _≤_}
 use mathlib.Core.Path.{sym, subst}
 use native.Mathlib.Omega.{arith}
 use Rattle.stack.specs.Stack.{Fit}
-use Rattle.working.specs.Scopes.{Scoped, scoping}
-use Rattle.working.proofs.Scoping.{scoped-more, scoped-bound}
+use Rattle.working_parts.specs.Scopes.{Scoped, scoping}
+use Rattle.working_parts.proofs.Scoping.{scoped-more, scoped-bound}
 use Rattle.working.proofs.Pairing.{adds-room, adds-stopped, pairs-stopped, pairs-both}
 use borrow.Author.Needs.{needs}
 use Rattle.working.proofs.two.Reads as two
 use Rattle.working.proofs.work_out.Reads as work-out
 use Rattle.working.proofs.+branch+choice+each_item+turns+two+work_out.Lts-two as two-lts
 use Rattle.stack.proofs.beside.Reads as beside-reads
-use Rattle.working.proofs.inner.Reads as inner-reads
+use Rattle.working_parts.proofs.inner.Reads as inner-reads
 use Rattle.working.proofs.+branch+choice+each_item+turns+two+work_out.Proof.Measures.{two-at, work-out-below}
 
 abbrev pub two-callees : ℕ → two-lts.Claims

@@ -30,13 +30,13 @@ use Rattle.query_records.proofs.read.Reads as read-reads
 use Rattle.cells.proofs.cell_of.Reads as cell-of-reads
 use Rattle.stack.proofs.put.Reads as put-reads
 use Rattle.stack_records.proofs.root.Reads as root-reads
-use Rattle.working.proofs.variable.Reads as variable-reads
+use Rattle.working_parts.proofs.variable.Reads as variable-reads
 use Rattle.stack.proofs.join.Reads as join-reads
 use Rattle.stack.proofs.drop_first.Reads as drop-first-reads
 use Rattle.stack_records.proofs.apply.Reads as apply-reads
 use Rattle.stack.proofs.number.Reads as number-reads
 use Rattle.stack_records.proofs.values.Reads as values-reads
-use Rattle.working.proofs.step.Reads as step-reads
+use Rattle.working_parts.proofs.step.Reads as step-reads
 use Rattle.working.proofs.+branch+choice+each_item+turns+two+work_out.Proof.Measures.{work-out-at, two-below}
 use Rattle.working.proofs.+branch+choice+each_item+turns+two+work_out.Proof.Measures.{each-item-below}
 use Rattle.working.proofs.+branch+choice+each_item+turns+two+work_out.Proof.Measures.{choice-below}

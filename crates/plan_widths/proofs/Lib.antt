@@ -1,0 +1,2 @@
+pub mod Suiting
+pub mod Ordered
