@@ -22,11 +22,13 @@ use Rattle.runner.specs.declared.Ran.{Ran}
 use Rattle.runner.specs.declared.Ran.the-variants.{Tables, BadPlan, BadCatalogue, Full, Fails}
 use Rattle.runner.proofs.Ran.{the-type}
 use Rattle.runner.specs.Answers.{answered}
-use Rattle.lines.specs.declared.Told.{Told}
-use Rattle.lines.specs.declared.Told.the-variants.{Gave, Refused}
-use Rattle.lines.specs.Text.{firstLines, refusedWith, agree, verdict, text}
+use Rattle.verdicts.specs.declared.Told.{Told}
+use Rattle.verdicts.specs.declared.Told.the-variants.{Gave, Refused}
+use Rattle.verdicts.specs.Compared.{refusedWith, agree, verdict}
+use Rattle.lines.specs.Text.{firstLines, text}
 use Rattle.lines.specs.Printed.{valueOf, toldBy}
-use Rattle.lines.specs.Placed.{GaveStands, roomFor}
+use Rattle.verdicts.specs.Compared.{GaveStands}
+use Rattle.lines.specs.Placed.{roomFor}
 use Rattle.lines.proofs.Kept.{length-column}
 use Rattle.answers.specs.Second.{second, Within}
 

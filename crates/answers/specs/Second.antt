@@ -8,7 +8,7 @@ use mathlib.Core.Bool.{cond}
 use lib.IntN.{ℤ}
 use lib.ListN.{length}
 use Rattle.meaning.specs.Calls.{Answer, Outcome, evaluateCall}
-use Rattle.lines.specs.Text.{refusedWith}
+use Rattle.verdicts.specs.Compared.{refusedWith}
 use Rattle.lines.specs.Printed.{valueOf, toldBy}
 
 unfoldable pub second : Answer → List ℤ → List ℕ → List ℕ → Outcome ℤ

@@ -1,9 +1,9 @@
 // What each call answered, as it is told: how many it gave, or its refusal. Between the two engines the runner's items
 // are kept, and the evaluator is asked where that can change what is printed.
 use evaluator::Evaluated;
-use lines::Told;
 use runner::Ran;
 use translator::Translated;
+use verdicts::Told;
 ghost use mathlib.Core.Path.{_≡_};
 ghost use Prim.Native.Nat.{_≤_};
 ghost use lib.ListN.{length};

@@ -17,8 +17,8 @@ use Rattle.tables.specs.declared.Laid.{Laid}
 use Rattle.tables.specs.Layout.{Owes}
 use Rattle.tables.proofs.Promise.{owes-is}
 use Rattle.plans.proofs.Callers.{keys-one, keys-two}
-use Rattle.sorting.specs.declared.Keys.{Keys}
-use Rattle.sorting.specs.Order.{columnsOf, KeyColumns as Suits}
+use Rattle.row_order.specs.declared.Keys.{Keys}
+use Rattle.row_order.specs.Order.{columnsOf, KeyColumns as Suits}
 
 module _ (bs : List ℕ) (from n : ℕ) where
   pub one-column : n ≡ 1 → from + n ≤ length bs → byteAt bs from ∷ [] ≡ columnsAt bs from n

@@ -13,14 +13,14 @@ ghost use Rattle.meaning.specs.World.{worldOf};
 ghost use Rattle.tables.specs.Layout.{tableAt, Owes};
 ghost use Rattle.rowwise.specs.Tasks;
 ghost use Rattle.step_parts.specs.Steps.{Ready};
-ghost use Rattle.sorting.specs.Order.{columnsOf};
+ghost use Rattle.row_order.specs.Order.{columnsOf};
 ghost use Rattle.directory.specs.Directory.{standAt};
 ghost use Rattle.directory.specs.Sound.{TableStands, wide};
 use codes::Axis;
 use codes::Test;
 use directory::stand;
+use row_order::Keys;
 use rowwise::Task;
-use sorting::Keys;
 use tables::Laid;
 
 // The row-wise operators, RA RP RS RF: a task for each row of table t.

@@ -21,9 +21,9 @@ use Rattle.tables.specs.Layout.{tableAt, Inside}
 use Rattle.tables.specs.Laying.{Settled}
 use Rattle.laws.proofs.Filters.{each-gather}
 use Rattle.tables.proofs.Standing.{table-below}
-use Rattle.joining.specs.declared.Part.{Part}
+use Rattle.searching.specs.declared.Part.{Part}
 use Rattle.joining.specs.Joined.{joinedRow}
-use Rattle.joining.specs.Narrowed.{Narrows}
+use Rattle.searching.specs.Narrowed.{Narrows}
 
 module _ (xs : List ℤ) (u : Stand) (c d : ℕ) (t : Table) where
   pub join-each : gives (join t c (tableAt xs u) d) ≡ each (joinedRow xs u c d) t

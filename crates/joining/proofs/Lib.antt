@@ -1,4 +1,2 @@
 pub mod Joined
-pub mod Passing
-pub mod Narrowing
 pub mod Joining

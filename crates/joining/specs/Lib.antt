@@ -1,2 +1,1 @@
 pub mod Joined
-pub mod Narrowed

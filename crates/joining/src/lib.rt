@@ -1,7 +1,6 @@
 // The operator RJ: for each row of a table, each row of the other that holds an equal cell. Where the other's column
 // climbs, a row looks only at the part of it that can join.
 pub mod pairs;
-mod search;
 
 ghost use mathlib.Core.List.{_++_, map};
 ghost use Prim.Native.Nat.{_+_, _*_, _≤_, _<_};
@@ -13,16 +12,11 @@ ghost use Rattle.laws.specs.Attempt.{gives};
 ghost use Rattle.meaning.specs.Operators;
 ghost use Rattle.meaning.specs.Operators.{Row, cell};
 ghost use Rattle.tables.specs.Layout.{tableAt, Inside, Owes};
-ghost use Rattle.joining.specs.Narrowed.{Narrows};
+ghost use Rattle.searching.specs.Narrowed.{Narrows};
+use searching::Part;
 use tables::Laid;
 use tables::Stand;
 use tables::order::climbs;
-
-// A part of a table's rows: its first row, and the row that it ends before.
-pub struct Part {
-    pub start: usize,
-    pub end: usize,
-}
 
 // The row at a joined with each row of u that has an equal cell, where all those stand in the part.
 fn join_part(
@@ -85,7 +79,7 @@ pub fn join(
     let mut from: usize = 0;
     while 0 < left {
         let x = work[a + c];
-        let part = search::part(work, u, d, x, climbing, from);
+        let part = searching::search::part(work, u, d, x, climbing, from);
         let laid = join_part(work, a, w, c, u, d, part, top, room);
         let Laid::Rows(m) = laid else {
             return laid;

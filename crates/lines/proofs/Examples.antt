@@ -25,7 +25,8 @@ use Rattle.meaning.specs.Run as Run
 use Rattle.meaning.specs.Translation as Translation
 use Rattle.meaning.specs.Written as Written
 use Rattle.meaning.specs.Calls as Calls
-use Rattle.lines.specs.declared.Told.the-variants.{Gave, Refused}
+use Rattle.verdicts.specs.declared.Told.the-variants.{Gave, Refused}
+use Rattle.verdicts.specs.Compared as Compared
 use Rattle.pen.specs.Decimal as Decimal
 use Rattle.lines.specs.Text as Text
 use Rattle.lines.specs.Printed as Printed
@@ -55,7 +56,8 @@ marked :
     ∷ 115 ∷ 97 ∷ 109 ∷ 101 ∷ 32 ∷ 121 ∷ 101 ∷ 115 ∷ 10 ∷ []
 unfolding Decimal.digits Decimal.decimal Decimal.signed
     Text.integerLine Text.truthLine Text.nodeLine Text.heldLine Text.itemLine
-    Text.refusedLine Text.itemsLine Text.firstLines Text.refusedWith Text.agree Text.verdict Text.sameLine Text.text
+    Text.refusedLine Text.itemsLine Text.firstLines Text.sameLine Text.text
+    Compared.refusedWith Compared.agree Compared.verdict
     Printed.valueOf Printed.toldBy Printed.runItems Printed.printed Rows.row Rows.rowsAt Lists.filter Lists.any
     Lists.all Lists.count Lists.firsts Lists.gather Lists.below Lists.sum Sorting.insert Sorting.sort Cell.cellOf
     Cell.inRange Cell.same Cell.before Cell.held Bytes.word Bytes.signed Bytes.int4 Bytes.int8 Bytes.fits Bytes.bytesOf
@@ -97,7 +99,8 @@ each-kind :
     ∷ 115 ∷ 97 ∷ 109 ∷ 101 ∷ 32 ∷ 121 ∷ 101 ∷ 115 ∷ 10 ∷ []
 unfolding Decimal.digits Decimal.decimal Decimal.signed
     Text.integerLine Text.truthLine Text.nodeLine Text.heldLine Text.itemLine
-    Text.refusedLine Text.itemsLine Text.firstLines Text.refusedWith Text.agree Text.verdict Text.sameLine Text.text
+    Text.refusedLine Text.itemsLine Text.firstLines Text.sameLine Text.text
+    Compared.refusedWith Compared.agree Compared.verdict
     Lists.gather Cell.held Cell.same Operators.sameRow
 each-kind = refl
 
@@ -107,7 +110,8 @@ alone :
     ≡ 114 ∷ 101 ∷ 102 ∷ 117 ∷ 115 ∷ 101 ∷ 100 ∷ 32 ∷ 51 ∷ 32 ∷ 97 ∷ 116 ∷ 32 ∷ 49 ∷ 50 ∷ 10 ∷ []
 unfolding Decimal.digits Decimal.decimal Decimal.signed
     Text.integerLine Text.truthLine Text.nodeLine Text.heldLine Text.itemLine
-    Text.refusedLine Text.itemsLine Text.firstLines Text.refusedWith Text.agree Text.verdict Text.sameLine Text.text
+    Text.refusedLine Text.itemsLine Text.firstLines Text.sameLine Text.text
+    Compared.refusedWith Compared.agree Compared.verdict
 alone = refl
 
 alike :
@@ -116,7 +120,8 @@ alike :
     ∷ 115 ∷ 97 ∷ 109 ∷ 101 ∷ 32 ∷ 121 ∷ 101 ∷ 115 ∷ 10 ∷ []
 unfolding Decimal.digits Decimal.decimal Decimal.signed
     Text.integerLine Text.truthLine Text.nodeLine Text.heldLine Text.itemLine
-    Text.refusedLine Text.itemsLine Text.firstLines Text.refusedWith Text.agree Text.verdict Text.sameLine Text.text
+    Text.refusedLine Text.itemsLine Text.firstLines Text.sameLine Text.text
+    Compared.refusedWith Compared.agree Compared.verdict
 alike = refl
 
 differs :
@@ -125,7 +130,8 @@ differs :
     ∷ 115 ∷ 97 ∷ 109 ∷ 101 ∷ 32 ∷ 110 ∷ 111 ∷ 10 ∷ []
 unfolding Decimal.digits Decimal.decimal Decimal.signed
     Text.integerLine Text.truthLine Text.nodeLine Text.heldLine Text.itemLine
-    Text.refusedLine Text.itemsLine Text.firstLines Text.refusedWith Text.agree Text.verdict Text.sameLine Text.text
+    Text.refusedLine Text.itemsLine Text.firstLines Text.sameLine Text.text
+    Compared.refusedWith Compared.agree Compared.verdict
 differs = refl
 
 room :
@@ -134,5 +140,6 @@ room :
     ∷ 115 ∷ 97 ∷ 109 ∷ 101 ∷ 32 ∷ 114 ∷ 111 ∷ 111 ∷ 109 ∷ 10 ∷ []
 unfolding Decimal.digits Decimal.decimal Decimal.signed
     Text.integerLine Text.truthLine Text.nodeLine Text.heldLine Text.itemLine
-    Text.refusedLine Text.itemsLine Text.firstLines Text.refusedWith Text.agree Text.verdict Text.sameLine Text.text
+    Text.refusedLine Text.itemsLine Text.firstLines Text.sameLine Text.text
+    Compared.refusedWith Compared.agree Compared.verdict
 room = refl

@@ -1,6 +1,5 @@
 pub mod Putting
 pub mod Lines
-pub mod Verdicts
 pub mod Kept
 pub mod Examples
 pub mod SameNo

@@ -21,11 +21,12 @@ use Rattle.cells.specs.declared.Held.{Held}
 use Rattle.cells.specs.declared.Held.the-variants as Held
 use Rattle.laws.specs.Lists.{gather}
 use Rattle.laws.proofs.Filters.{gather-append}
-use Rattle.lines.specs.declared.Told.{Told}
-use Rattle.lines.specs.declared.Told.the-variants.{Gave, Refused}
-use Rattle.lines.specs.declared.Verdict.{Verdict}
+use Rattle.verdicts.specs.declared.Told.{Told}
+use Rattle.verdicts.specs.declared.Told.the-variants.{Gave, Refused}
+use Rattle.verdicts.specs.declared.Verdict.{Verdict}
 use Rattle.lines.specs.Text.{integerLine, truthLine, nodeLine, heldLine, itemLine, itemsLine, refusedLine}
-use Rattle.lines.specs.Text.{firstLines, refusedWith, verdict, sameLine, text}
+use Rattle.verdicts.specs.Compared.{refusedWith, verdict}
+use Rattle.lines.specs.Text.{firstLines, sameLine, text}
 use Rattle.lines.specs.Placed.{roomFor}
 
 -- the line of a cell: h is what it holds, read from v

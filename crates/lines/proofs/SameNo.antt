@@ -18,13 +18,14 @@ use Rattle.cells.specs.declared.Held.{Held}
 use Rattle.cells.specs.declared.Held.the-variants as Held
 use Rattle.laws.specs.Lists.{gather}
 use Rattle.laws.proofs.Booleans.{or-right}
-use Rattle.lines.specs.declared.Told.{Told}
-use Rattle.lines.specs.declared.Told.the-variants.{Gave, Refused}
-use Rattle.lines.specs.declared.Verdict.{Verdict}
-use Rattle.lines.specs.declared.Verdict.the-variants.{Agree, Differ, Room}
+use Rattle.verdicts.specs.declared.Told.{Told}
+use Rattle.verdicts.specs.declared.Told.the-variants.{Gave, Refused}
+use Rattle.verdicts.specs.declared.Verdict.{Verdict}
+use Rattle.verdicts.specs.declared.Verdict.the-variants.{Agree, Differ, Room}
 use Rattle.pen.specs.Decimal.{digits, decimal, signed}
 use Rattle.lines.specs.Text.{Text, integerLine, truthLine, nodeLine, heldLine, itemLine}
-use Rattle.lines.specs.Text.{refusedLine, itemsLine, firstLines, verdict, sameLine, text, lineEnd, atWord}
+use Rattle.verdicts.specs.Compared.{verdict}
+use Rattle.lines.specs.Text.{refusedLine, itemsLine, firstLines, sameLine, text, lineEnd, atWord}
 use Rattle.lines.specs.Text.{sameNo, Nowhere}
 
 -- A word in a text

@@ -11,8 +11,8 @@ use lib.ListN.{take, getD}
 use Rattle.laws.specs.Rows.{rowsAt}
 use Rattle.meaning.specs.Operators.{column}
 use Rattle.meaning.specs.Calls.{Answer, gives, refused, Outcome, translateCall, runCall, evaluateCall}
-use Rattle.lines.specs.declared.Told.{Told}
-use Rattle.lines.specs.declared.Told.the-variants.{Gave, Refused}
+use Rattle.verdicts.specs.declared.Told.{Told}
+use Rattle.verdicts.specs.declared.Told.the-variants.{Gave, Refused}
 use Rattle.lines.specs.Text.{Text, text}
 
 -- value k of an answer, 0 of a refusal

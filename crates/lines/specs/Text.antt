@@ -12,9 +12,6 @@
 --     refusedLine n p     `refused n at p`
 --     itemsLine n         `items N`
 --     firstLines t xs     `items N` and a line for each of the items xs; or the refusal
---     refusedWith n t     t is a refusal with number n
---     agree ..            both gave the same items, or both refused with the same number
---     verdict ..          room where either gave 6; else whether the engines agree
 --     sameLine v          `same yes`, `same no` or `same room`
 --     text ..             all lines: of what the translator, the runner and the evaluator told, and both engines' items
 --     sameNo              the bytes `same no`
@@ -22,8 +19,7 @@
 use Prim.Native.Nat.{ℕ}
 use mathlib.Core.Path.{_≡_}
 use mathlib.Core.List.{List, [], _∷_, _++_}
-use mathlib.Core.Bool.{Bool, true, false, cond, _||_}
-use lib.Dec.{eqb}
+use mathlib.Core.Bool.{Bool, true, false}
 use lib.IntN.{ℤ}
 use lib.ListN.{take}
 use Rattle.cells.specs.Cell.{held}
@@ -31,12 +27,12 @@ use Rattle.cells.specs.declared.Item.the-variants.{Integer, Truth, Node}
 use Rattle.cells.specs.declared.Held.{Held}
 use Rattle.cells.specs.declared.Held.the-variants.{Item, Stray}
 use Rattle.laws.specs.Lists.{gather}
-use Rattle.meaning.specs.Operators.{sameRow}
 use Rattle.pen.specs.Decimal.{decimal, signed}
-use Rattle.lines.specs.declared.Told.{Told}
-use Rattle.lines.specs.declared.Told.the-variants.{Gave, Refused}
-use Rattle.lines.specs.declared.Verdict.{Verdict}
-use Rattle.lines.specs.declared.Verdict.the-variants.{Agree, Differ, Room}
+use Rattle.verdicts.specs.declared.Told.{Told}
+use Rattle.verdicts.specs.declared.Told.the-variants.{Gave, Refused}
+use Rattle.verdicts.specs.declared.Verdict.{Verdict}
+use Rattle.verdicts.specs.declared.Verdict.the-variants.{Agree, Differ, Room}
+use Rattle.verdicts.specs.Compared.{verdict}
 
 abbrev pub Text : Type 0
 Text = List ℕ
@@ -109,19 +105,6 @@ itemsLine n = itemsWord ++ (decimal n ++ lineEnd)
 unfoldable pub firstLines : Told → List ℤ → Text
 firstLines (Gave n) xs = itemsLine n ++ gather itemLine (take n xs)
 firstLines (Refused n p) xs = refusedLine n p
-
-unfoldable pub refusedWith : ℕ → Told → Bool
-refusedWith n (Gave k) = false
-refusedWith n (Refused m p) = eqb m n
-
-unfoldable pub agree : Told → List ℤ → Told → List ℤ → Bool
-agree (Gave n) xs (Gave m) ys = sameRow (take n xs) (take m ys)
-agree (Gave n) xs (Refused m q) ys = false
-agree (Refused n p) xs other ys = refusedWith n other
-
-unfoldable pub verdict : Told → List ℤ → Told → List ℤ → Verdict
-verdict ran xs evaluated ys =
-    cond (refusedWith 6 ran || refusedWith 6 evaluated) Room (cond (agree ran xs evaluated ys) Agree Differ)
 
 unfoldable pub sameLine : Verdict → Text
 sameLine Agree = sameWord ++ (yesWord ++ lineEnd)

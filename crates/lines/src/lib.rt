@@ -8,20 +8,11 @@ ghost use Rattle.laws.specs.Rows.{rowsAt, laid};
 ghost use Rattle.meaning.specs.Operators;
 ghost use Rattle.pen.specs.Penned.{Pens};
 ghost use Rattle.lines.specs.Text;
-ghost use Rattle.lines.specs.Placed.{Put, GaveStands, roomFor};
-
-// What a call told: how many it gave, items or operators; or a refusal's number and place.
-pub enum Told {
-    Gave(usize),
-    Refused(usize, usize),
-}
-
-// Whether the engines agree, or either had no room.
-pub enum Verdict {
-    Agree,
-    Differ,
-    Room,
-}
+ghost use Rattle.verdicts.specs.Compared.{GaveStands};
+ghost use Rattle.lines.specs.Placed.{Put, roomFor};
+use verdicts::Told;
+use verdicts::Verdict;
+use verdicts::comparing::verdict;
 
 // Copies the items of the runner's last table, its column 2, so that the cells can be lent again. Each row is looked
 // at once.
@@ -94,7 +85,7 @@ pub fn write(
         Told::Refused(number, place) => put_refusal(text, 0, number, place),
         Told::Gave(_) => {
             let a = put_first(text, 0, ran, cells);
-            let v = items::verdict(ran, cells, evaluated, others);
+            let v = verdict(ran, cells, evaluated, others);
             put_verdict(text, a, v)
         }
     }

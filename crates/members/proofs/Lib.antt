@@ -1,4 +1,3 @@
 pub mod Opening
 pub mod Parts
 pub mod Members
-pub mod Least

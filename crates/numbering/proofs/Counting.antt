@@ -23,10 +23,10 @@ use Rattle.laws.specs.Sorting.{Weak, Sorted}
 use Rattle.laws.proofs.Rows.{length-snoc}
 use Rattle.meaning.specs.Operators.{Row, Table, cell, rising, numberedAfter, inGroup}
 use Rattle.tables.specs.Layout.{Wide}
-use Rattle.sorting.specs.declared.Keys.{Keys}
-use Rattle.sorting.specs.Order.{orderOf}
+use Rattle.row_order.specs.declared.Keys.{Keys}
+use Rattle.row_order.specs.Order.{orderOf}
 use Rattle.numbering.specs.Numbered.{counterOf, countedFrom}
-use Rattle.sorting.proofs.Columns.{rising-weak}
+use Rattle.row_order.proofs.Columns.{rising-weak}
 
 module _ {A : Type 0} where
   count-none : (p : A → Bool) (xs : List A) → All (λ x. p x ≡ false) xs → count p xs ≡ 0

@@ -23,9 +23,9 @@ use Rattle.tables.specs.declared.Stand.{Stand}
 use Rattle.tables.specs.declared.Laid.the-variants.{Rows, Full}
 use Rattle.tables.specs.Layout.{tableAt, Inside, Owes}
 use Rattle.tables.proofs.Promise.{none-laid}
-use Rattle.sorting.specs.declared.Keys.{Keys}
-use Rattle.sorting.specs.declared.Keys.the-variants.{One, Two}
-use Rattle.sorting.specs.Order.{columnsOf, orderOf, standsBefore, KeyColumns, Low}
+use Rattle.row_order.specs.declared.Keys.{Keys}
+use Rattle.row_order.specs.declared.Keys.the-variants.{One, Two}
+use Rattle.row_order.specs.Order.{columnsOf, orderOf, standsBefore, KeyColumns, Low}
 use Rattle.numbering.specs.Numbered.{rowOf, numberedRows}
 use Rattle.numbering.proofs.Counting.{wide-counted}
 use Rattle.numbering.proofs.Sorted.{columns-within, numbered-rows, numbers-within, rows-wide}

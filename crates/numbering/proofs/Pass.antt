@@ -20,7 +20,7 @@ use Rattle.laws.proofs.Booleans.{by-cases}
 use Rattle.laws.proofs.Rows.{laid-nothing, laid-more, length-laid, take-laid, length-row, length-snoc}
 use Rattle.meaning.specs.Operators.{Row, Table, cell, inGroup}
 use Rattle.tables.specs.declared.Stand.{Stand}
-use Rattle.sorting.specs.Order.{from}
+use Rattle.row_order.specs.Order.{from}
 use Rattle.numbering.specs.Numbered.{rowOf, counterOf, countedFrom, numberedRows, Layable}
 use Rattle.laws.proofs.Places.{rest-cons}
 use Rattle.numbering.proofs.Sorted.{cell-row, row-end}

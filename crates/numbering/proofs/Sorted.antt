@@ -32,10 +32,10 @@ use Rattle.meaning.specs.Plan.{columns}
 use Rattle.meaning.specs.Operators.{Table, cell, rising, inGroup, number}
 use Rattle.tables.specs.declared.Stand.{Stand}
 use Rattle.tables.specs.Layout.{tableAt, Wide}
-use Rattle.sorting.specs.declared.Keys.{Keys}
-use Rattle.sorting.specs.Order.{columnsOf, orderOf, from, standsBefore, KeyColumns}
+use Rattle.row_order.specs.declared.Keys.{Keys}
+use Rattle.row_order.specs.Order.{columnsOf, orderOf, from, standsBefore, KeyColumns}
 use Rattle.numbering.specs.Numbered.{rowOf, countedFrom, numberedRows}
-use Rattle.sorting.proofs.Columns.{rising-weak}
+use Rattle.row_order.proofs.Columns.{rising-weak}
 use Rattle.numbering.proofs.Counting.{counted-group}
 
 -- the rows of a table, the last one by itself

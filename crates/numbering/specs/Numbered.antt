@@ -15,7 +15,7 @@ use lib.ListN.{length, getD}
 use Rattle.laws.specs.Rows.{row}
 use Rattle.meaning.specs.Operators.{Row, Table, inGroup}
 use Rattle.tables.specs.declared.Stand.{Stand}
-use Rattle.sorting.specs.Order.{Low}
+use Rattle.row_order.specs.Order.{Low}
 
 unfoldable pub rowOf : List ℤ → Stand → ℕ → Row
 rowOf xs s i = row xs (s .at + i * s .width) (s .width)

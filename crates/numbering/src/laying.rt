@@ -6,10 +6,10 @@ ghost use lib.IntN.{pos};
 ghost use lib.ListN.{length};
 ghost use Rattle.laws.specs.Rows.{row, laid, flat};
 ghost use Rattle.meaning.specs.Operators.{inGroup};
-ghost use Rattle.sorting.specs.Order.{from, Low};
+ghost use Rattle.row_order.specs.Order.{from, Low};
 ghost use Rattle.numbering.specs.Numbered.{counterOf, numberedRows, Layable};
-use sorting::order::start;
-use sorting::order::tied;
+use row_order::start;
+use row_order::tied;
 use tables::Stand;
 
 // The row of width w at cell a, and its counter, laid at `to`.

@@ -6,8 +6,8 @@ ghost use lib.ListN.{length};
 ghost use Rattle.laws.specs.Attempt.{gives};
 ghost use Rattle.meaning.specs.Operators;
 ghost use Rattle.tables.specs.Layout.{tableAt, Inside, Owes};
-ghost use Rattle.sorting.specs.Order.{columnsOf, KeyColumns};
-use sorting::Keys;
+ghost use Rattle.row_order.specs.Order.{columnsOf, KeyColumns};
+use row_order::Keys;
 use tables::Laid;
 use tables::Stand;
 

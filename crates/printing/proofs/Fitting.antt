@@ -31,10 +31,11 @@ use Rattle.agreement.proofs.RowWidths.{read-sound, flat-wide, flat-last, runnin
 use Rattle.theorems.specs.PlanRead.{widthsOf}
 use Rattle.agreement.specs.RowWidths.{TablesLaid}
 use Rattle.agreement.proofs.Answers.{last-three, room-lent, found-same, plan-long}
-use Rattle.lines.specs.declared.Told.{Told}
-use Rattle.lines.specs.Text.{refusedWith}
+use Rattle.verdicts.specs.declared.Told.{Told}
+use Rattle.verdicts.specs.Compared.{refusedWith}
 use Rattle.lines.specs.Printed.{valueOf, toldBy}
-use Rattle.lines.specs.Placed.{GaveStands, roomFor}
+use Rattle.verdicts.specs.Compared.{GaveStands}
+use Rattle.lines.specs.Placed.{roomFor}
 use Rattle.answers.specs.Second.{second, Within}
 use Rattle.answers.proofs.Keeping.{rows-stand, rows-room}
 

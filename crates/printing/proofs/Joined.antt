@@ -23,9 +23,10 @@ use Rattle.translator.specs.declared.Translated.{Translated}
 use Rattle.translator.specs.declared.Translated.the-variants.{Plan, Unsound, Excess, Unbound, Longer}
 use Rattle.translator.proofs.Translated.{the-type}
 use Rattle.translator.specs.Answers.{answered}
-use Rattle.lines.specs.declared.Told.{Told}
+use Rattle.verdicts.specs.declared.Told.{Told}
 use Rattle.lines.specs.Text as Text
-use Rattle.lines.specs.Text.{refusedWith, text, sameNo, Nowhere}
+use Rattle.verdicts.specs.Compared.{refusedWith}
+use Rattle.lines.specs.Text.{text, sameNo, Nowhere}
 use Rattle.lines.specs.Printed.{valueOf, toldBy, runItems, printed}
 use Rattle.lines.specs.Placed.{Put}
 use Rattle.lines.proofs.Lines.{text-room}

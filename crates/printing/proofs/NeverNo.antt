@@ -28,13 +28,14 @@ use Rattle.theorems.specs.PlanRead.{TranslatedPlan}
 use Rattle.agreement.specs.Passing.{means, Refused as RefusedBy, itemsAt, Alike, bothFail, bothGive}
 use Rattle.agreement.proofs.Encoded.{sameRow-self}
 use Rattle.agreement.proofs.EnginesAgree.{agree-in-hand}
-use Rattle.lines.specs.declared.Told.{Told}
-use Rattle.lines.specs.declared.Told.the-variants.{Gave, Refused}
-use Rattle.lines.specs.declared.Verdict.{Verdict}
-use Rattle.lines.specs.declared.Verdict.the-variants.{Agree, Differ, Room}
-use Rattle.lines.specs.Text.{refusedWith, agree, verdict, sameNo, Nowhere}
+use Rattle.verdicts.specs.declared.Told.{Told}
+use Rattle.verdicts.specs.declared.Told.the-variants.{Gave, Refused}
+use Rattle.verdicts.specs.declared.Verdict.{Verdict}
+use Rattle.verdicts.specs.declared.Verdict.the-variants.{Agree, Differ, Room}
+use Rattle.verdicts.specs.Compared.{refusedWith, agree, verdict}
+use Rattle.lines.specs.Text.{sameNo, Nowhere}
 use Rattle.lines.specs.Printed.{valueOf, toldBy, runItems, printed}
-use Rattle.lines.proofs.Verdicts.{first-room, second-room, by-agree}
+use Rattle.verdicts.proofs.Verdicts.{first-room, second-room, by-agree}
 use Rattle.lines.proofs.SameNo.{no-same-no}
 
 -- the verdict on a run and an evaluation

@@ -13,7 +13,7 @@ use lib.IntN.{ℤ}
 use lib.ListN.{length, take}
 use Rattle.laws.specs.Rows.{laid}
 use Rattle.meaning.specs.Calls.{Answer, gives, refused, Outcome, translateCall, runCall, evaluateCall}
-use Rattle.lines.specs.declared.Told.{Told}
+use Rattle.verdicts.specs.declared.Told.{Told}
 use Rattle.lines.specs.Text.{Text, text, sameNo, Nowhere}
 use Rattle.lines.specs.Printed.{valueOf, toldBy, runItems, printed}
 use Rattle.lines.specs.Placed.{Put}

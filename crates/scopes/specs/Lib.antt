@@ -1,1 +1,1 @@
-pub mod Lifts
+pub mod Choices

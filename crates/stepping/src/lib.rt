@@ -15,7 +15,7 @@ ghost use Rattle.members.specs.Grouped.{inFront};
 ghost use Rattle.stepping.specs.Marking.{isNode, FromRow};
 use codes::Axis;
 use codes::Test;
-use members::finding::cell_at;
+use members::cell_at;
 use nodesets::Iteration;
 use nodesets::Marked;
 use nodesets::Ranked;

@@ -17,11 +17,12 @@ use Rattle.meaning.specs.Translation.{then, tr}
 use Rattle.query_walks.specs.Parse.{Parsed, Free}
 use Rattle.adding.specs.declared.Pen.{Pen}
 use Rattle.adding.specs.declared.Output.{Output}
-use Rattle.scopes.specs.declared.Lifted.{Lifted}
+use Rattle.lifting.specs.declared.Lifted.{Lifted}
 use Rattle.adding.specs.Ruled.{Wrote, Ruled}
-use Rattle.scopes.specs.Lifts.{Lifts, HoldsTables, flagged, choice}
+use Rattle.lifting.specs.Lifts.{Lifts, HoldsTables, flagged}
+use Rattle.scopes.specs.Choices.{choice}
 use Rattle.adding.proofs.Adding.{ruled-then}
-use Rattle.scopes.proofs.Lifting.{hold-holds, flagged-free, flagged-others, lifts-wrote, lifts-holds}
+use Rattle.lifting.proofs.Lifting.{hold-holds, flagged-free, flagged-others, lifts-wrote, lifts-holds}
 use Rattle.translating.specs.Translating.{Tree, Two, Three, Makes, MakesBranch, branched}
 use Rattle.translating.proofs.Rooms.{moved}
 use Rattle.translating.proofs.Splitting.{ruled-is}

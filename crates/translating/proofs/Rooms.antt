@@ -21,11 +21,11 @@ use Rattle.theorems.proofs.PlanBound.{tr-bound, length-lifts, length-freeIn}
 use Rattle.query_walks.specs.Parse.{Parsed}
 use Rattle.adding.specs.declared.Pen.{Pen}
 use Rattle.adding.specs.declared.Output.{Output}
-use Rattle.scopes.specs.declared.Lifted.{Lifted}
+use Rattle.lifting.specs.declared.Lifted.{Lifted}
 use Rattle.adding.specs.Ruled.{PenRoom, Wrote, Ruled}
-use Rattle.scopes.specs.Lifts.{Lifts, HoldsTables, tablesOf, flagged}
+use Rattle.lifting.specs.Lifts.{Lifts, HoldsTables, tablesOf, flagged}
 use Rattle.adding.proofs.Adding.{wrote-room}
-use Rattle.scopes.proofs.Lifting.{lifts-all-room}
+use Rattle.lifting.proofs.Lifting.{lifts-all-room}
 use Rattle.translating.specs.Translating.{Tree, Asked, AskedOne, AskedTwo, AskedThree, AskedBranch}
 use Rattle.translating.specs.Translating.{Makes, MakesBranch, branched}
 

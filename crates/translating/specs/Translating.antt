@@ -21,7 +21,7 @@ use Rattle.query_walks.specs.Parse.{Parsed}
 use Rattle.adding.specs.declared.Pen.{Pen}
 use Rattle.adding.specs.declared.Output.{Output}
 use Rattle.adding.specs.Ruled.{PenRoom, Ruled}
-use Rattle.scopes.specs.Lifts.{HoldsTables}
+use Rattle.lifting.specs.Lifts.{HoldsTables}
 
 pub record Tree (d : Parsed) : Type 0 where
   pub q : Query

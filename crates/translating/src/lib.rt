@@ -17,7 +17,7 @@ ghost use Rattle.translating.specs.Translating.{Makes, MakesOne, MakesTw
 fn variable(tables: [usize; 8], v: usize, pen: Pen, next: usize) -> Output
     ensures { λ r. ⌜ r ≡ record { table = getD tables v 0; pen = pen; next = next } ⌝ }
 {
-    let table = scopes::table_of(tables, v);
+    let table = lifting::table_of(tables, v);
     Output { table, pen, next }
 }
 
@@ -119,7 +119,7 @@ fn let_in(
 {
     let a = expression(query, at, depth, l, tables, pen, plan);
     let p = a.pen;
-    let inner = scopes::hold(tables, v, a.table);
+    let inner = lifting::hold(tables, v, a.table);
     expression(query, a.next, depth, l, inner, p, plan)
 }
 
@@ -143,10 +143,10 @@ fn for_each(
     let p = a.pen;
     let m = p.operators;
     let q = scopes::for_head(plan, p, a.table);
-    let others = scopes::without(query_walks::free(query, body, depth), v);
-    let lifted = scopes::lift(plan, q, tables, others, m + 4, 4);
+    let others = lifting::without(query_walks::free(query, body, depth), v);
+    let lifted = lifting::lift(plan, q, tables, others, m + 4, 4);
     let outer = lifted.tables;
-    let inner = scopes::hold(outer, v, m + 2);
+    let inner = lifting::hold(outer, v, m + 2);
     let s = lifted.pen;
     let b = expression(query, body, depth, m + 3, inner, s, plan);
     let t = b.pen;
@@ -193,7 +193,7 @@ fn branch(
         (plan .exit)) r ⌝ }
 {
     let flags = query_walks::free(query, at, depth);
-    let lifted = scopes::lift(plan, pen, tables, flags, l, 0);
+    let lifted = lifting::lift(plan, pen, tables, flags, l, 0);
     let inner = lifted.tables;
     let p = lifted.pen;
     expression(query, at, depth, l, inner, p, plan)

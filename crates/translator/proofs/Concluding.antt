@@ -33,7 +33,7 @@ use Rattle.pen.proofs.Penned.{cleared-from-0, cleared-penned}
 use Rattle.adding.specs.declared.Pen.{Pen}
 use Rattle.adding.specs.declared.Output.{Output}
 use Rattle.adding.specs.Ruled.{PenRoom, Wrote}
-use Rattle.scopes.specs.Lifts.{HoldsTables}
+use Rattle.lifting.specs.Lifts.{HoldsTables}
 use Rattle.adding.proofs.Adding.{wrote-then, wrote-length}
 use Rattle.translating.specs.Translating.{Tree, Asked, Makes}
 use Rattle.translator.specs.Answers.{WholeQuery, Concludes, answered}

@@ -19,7 +19,7 @@ use Rattle.tables.proofs.Unrolled.{past-first}
 use Rattle.tables.proofs.Laying.{counted-fits, length-laying, laying-start, row-more, row-stopped, rows-laid}
 use Rattle.tables.specs.Laying.{Laying}
 use Rattle.tables.specs.Order.{climbs}
-use Rattle.joining.proofs.Narrowing.{narrows-cell}
+use Rattle.searching.proofs.Narrowing.{narrows-cell}
 use Rattle.joining.proofs.Joining.{join-each, join-settled, joined-laid}
 use Rattle.joining.specs.Joined.{joinedRow}
 use Rattle.tables.proofs.Standing.{table-below, inside-up}

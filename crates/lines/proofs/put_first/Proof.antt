@@ -4,7 +4,7 @@ use native.Mathlib.Omega.{arith}
 use Rattle.lines.specs.Text.{itemsLine}
 use Rattle.pen.proofs.Putting.{pens-more, pens-as}
 use Rattle.lines.proofs.Lines.{first-gave, first-refused, room-gave, room-refused}
-use Rattle.lines.proofs.Verdicts.{stands-gave}
+use Rattle.verdicts.proofs.Verdicts.{stands-gave}
 use borrow.Author.Needs.{needs}
 use Rattle.lines.proofs.put_first.Statement.{statement}
 use Rattle.lines.proofs.put_first.Tie as tie

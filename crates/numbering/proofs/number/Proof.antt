@@ -3,7 +3,7 @@ use Prim.Native.Nat.{_+_, _*_, _≤_, _<_}
 use Rattle.tables.specs.Layout.{Inside}
 use Rattle.numbering.proofs.Sorted.{column-p, numbers-within, number-within}
 use native.Mathlib.Omega.{arith}
-use Rattle.sorting.specs.Order.{Low}
+use Rattle.row_order.specs.Order.{Low}
 use Rattle.numbering.proofs.Owed.{positive, owed-none, owed-full, owed-laid, low, product, few}
 use borrow.Author.Needs.{needs}
 use Rattle.numbering.proofs.number.Statement.{statement}

@@ -1,7 +1,8 @@
 -- `tell` meets its contract: the translator's refusal, or the text of its plan.
 use mathlib.Core.Path.{refl}
 use native.Mathlib.Omega.{arith}
-use Rattle.lines.specs.Placed.{GaveStands, roomFor}
+use Rattle.verdicts.specs.Compared.{GaveStands}
+use Rattle.lines.specs.Placed.{roomFor}
 use Rattle.printing.proofs.Joined.{bytes-within, tells-refused, tells-plan}
 use borrow.Author.Needs.{needs}
 use Rattle.printing.proofs.tell.Statement.{statement}

@@ -3,7 +3,7 @@ use borrow.Author.Needs.{needs}
 use mathlib.Core.Path.{refl}
 use Rattle.writing.specs.Listed.{columnsOf, keysOf}
 use Rattle.adding.specs.Ruled.{operatorOf}
-use Rattle.scopes.specs.Lifts.{choice}
+use Rattle.scopes.specs.Choices.{choice}
 use Rattle.scopes.proofs.if_tail.Statement.{statement}
 use Rattle.scopes.proofs.if_tail.Tie as tie
 

@@ -4,7 +4,7 @@ use mathlib.Core.Path.{sym, ap₂, _∙_}
 use lib.ListN.{drop}
 use Rattle.cells.specs.Cell.{same}
 use Rattle.meaning.specs.Operators.{cell}
-use Rattle.sorting.specs.Order.{from}
+use Rattle.row_order.specs.Order.{from}
 use Rattle.numbering.proofs.Counting.{group-whole, group-by}
 use borrow.Author.Needs.{needs}
 use Rattle.numbering.proofs.laying.in_group.Statement.{statement}

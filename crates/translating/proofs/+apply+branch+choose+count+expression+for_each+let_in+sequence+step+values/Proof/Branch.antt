@@ -10,7 +10,7 @@ use Rattle.translating.proofs as parts
 use parts.+apply+branch+choose+count+expression+for_each+let_in+sequence+step+values as cycle
 use cycle.Lts-branch as branch-lts
 use Rattle.query_walks.proofs.free.Reads as free-reads
-use Rattle.scopes.proofs.lift.Reads as lift-reads
+use Rattle.lifting.proofs.lift.Reads as lift-reads
 use cycle.Proof.Measures.{branch-at, expression-below}
 
 abbrev pub callees : ℕ → branch-lts.Claims

@@ -17,9 +17,9 @@ use cycle.Lts-for_each as for-each-lts
 use Rattle.scopes.proofs.for_head.Reads as for-head-reads
 use Rattle.scopes.proofs.for_tail.Reads as for-tail-reads
 use Rattle.query_walks.proofs.free.Reads as free-reads
-use Rattle.scopes.proofs.hold.Reads as hold-reads
-use Rattle.scopes.proofs.lift.Reads as lift-reads
-use Rattle.scopes.proofs.without.Reads as without-reads
+use Rattle.lifting.proofs.hold.Reads as hold-reads
+use Rattle.lifting.proofs.lift.Reads as lift-reads
+use Rattle.lifting.proofs.without.Reads as without-reads
 use cycle.Proof.Measures.{for-each-at, expression-below}
 
 abbrev pub callees : ℕ → for-each-lts.Claims

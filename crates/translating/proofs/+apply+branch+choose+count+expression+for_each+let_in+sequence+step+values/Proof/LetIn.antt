@@ -12,7 +12,7 @@ use Rattle.translating.proofs.let_in.Reads as let-in
 use Rattle.translating.proofs as parts
 use parts.+apply+branch+choose+count+expression+for_each+let_in+sequence+step+values as cycle
 use cycle.Lts-let_in as let-in-lts
-use Rattle.scopes.proofs.hold.Reads as hold-reads
+use Rattle.lifting.proofs.hold.Reads as hold-reads
 use cycle.Proof.Measures.{let-in-at, expression-below}
 
 abbrev pub callees : ℕ → let-in-lts.Claims
