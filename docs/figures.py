@@ -39,7 +39,7 @@ class Figures:
         specs = lines_of(f for f in sorted(folder.glob("specs/**/*.antt")) if f.name != "Lib.antt")
         laws = lines_of(f for f in sorted(folder.glob("proofs/*.antt")) if f.name != "Lib.antt")
         proofs = lines_of(f for f in sorted(folder.glob("proofs/**/*.antt")) if f.name != "Lib.antt")
-        self.functions = matching(r" *(pub )?fn ", code)
+        self.functions = matching(r" *(pub )?fn (?!nothing\b)", code)
         self.code = len(code) if self.functions else 0
         self.definitions = matching(r" *((abbrev|unfoldable) pub |pub (data|record) )|pub (?!data|record|mod)", specs)
         self.specs = len(specs)
