@@ -1,15 +1,16 @@
 """Cases at the bounds, for each public call and for chartask: a name and what is given.
 
-Every case here is there for a sentence of document 01 or for a reading of it. texts_at_bounds.py has those of
-document 02's L1 and L9.
+Every case here is there for a sentence of document 01 or for a reading of it. typed_at_bounds.py has those of
+document 02's L1, sheets_at_bounds.py those of L9.
 """
 
 import chartask
 import examples
+import sheets_at_bounds
 import some_catalogues as c
 import some_plans as p
 import some_queries as q
-import texts_at_bounds
+import typed_at_bounds
 from rooms import bytes_needed, cells_needed, items_needed, lengths_around, plan_of, query_of_cells
 
 DOC = examples.EXAMPLE_DOC
@@ -205,7 +206,7 @@ def lacking_room():
 
 FAMILIES = {"check_catalogue": (catalogues,), "check_query": (queries,), "translate": (translations,),
             "run": (runs, long_runs), "evaluate": (evaluations, long_evaluations), "chartask": (printings,),
-            **texts_at_bounds.FAMILIES}
+            **typed_at_bounds.FAMILIES, **sheets_at_bounds.FAMILIES}
 
 
 def inputs(call):

@@ -54,6 +54,8 @@ wrong("the place is past the digit that leaves the range", READ, typed, "numeral
       replaced(typed.numeral, lambda place, text, at, most: place + 1))
 wrong("the place is the word's first byte", READ, typed, "fixed",
       replaced(typed.fixed, lambda place, text, at, words: at))
+wrong("the place is past the byte that no word has", READ, typed, "fixed",
+      replaced(typed.fixed, lambda place, text, at, words: place + 1))
 wrong("the place is the word's end", READ, typed, "fixed",
       replaced(typed.fixed, lambda place, text, at, words: end_of_letters(place, text)))
 wrong("a text that ends too early is refused at 0", READ, typed, "records_of",
@@ -140,6 +142,17 @@ wrong("data read as count", READ, typed.CALLS, "data", b"QC")
 wrong("let read as for", READ, typed.BINDINGS, "let", (b"QF", ":="))
 wrong("operands in the wrong order", READ, typed, "operation",
       lambda word, a, b, operation=typed.operation: operation(word, b, a))
+
+
+@fault("an operator's record before its second operand", READ, typed, "operation")
+def inserted_too_far(word, a, b, operation=typed.operation):
+    own = operation(word, a, b).record
+    return typed.Part(b"", word.at, (a, typed.Part(own, word.at, (b,))))
+
+
+@fault("a step's record after its operand", READ, typed.Reader, "step")
+def appended(reader, part, word, step=typed.Reader.step):
+    return typed.Part(b"", word.at, (part, step(reader, part, word)._replace(operands=())))
 
 
 def right_grouping(of):

@@ -61,8 +61,18 @@ GROUPS = [
           (("answered", "its contract: evaluateCall"),)),
     Group("the runner", "code", "directory arms operators laying running runner", "specs",
           (("answered", "its contract: runCall"),)),
+    Group("typed queries: the grammar", "definitions", "grammar", "specs",
+          (("Typed Outside", "which texts are queries, and where others are none"),
+           ("TypedCall writeCall", "what the two calls answer and leave"))),
+    Group("typed queries: the reader as a definition", "theorems", "parsing", "proofs",
+          (("only-reading nine-exactly one-place", "one reading; 9 for exactly the other texts, at one place"),)),
+    Group("typed queries: the calls", "code",
+          "numerals recording spelling next_words step_words operands paths openings beginnings typing reader levels phrases "
+          "wording", "specs",
+          (("answered", "their contracts: TypedCall, writeCall"),)),
     Group("the printed text", "programs",
-          "verdicts lines answers printing chartask cases shown_tables shown_records shown_rows showing", "specs",
+          "verdicts lines answers printing chartask typed_printing charttext cases shown_tables shown_records shown_rows "
+          "showing", "specs",
           (("printed", "the lines of chartask, proved"),)),
     Group("stored cases: run and compared, not proved", "programs",
           "stored", "", ()),
@@ -185,10 +195,10 @@ class Box:
 
 def place(boxes):
     """Two columns over the definitions: theorems and promises at the left, code at the right. Returns the height."""
-    (ground, definitions, theorems, agreement, checks, items, operators, translator, evaluator, runner, printed, stored,
-     promises) = boxes
+    (ground, definitions, theorems, agreement, checks, items, operators, translator, evaluator, runner, grammar, parsing,
+     typed, printed, stored, promises) = boxes
     y = MARGIN
-    for box in (stored, printed):
+    for box in (stored, printed, typed):
         box.y = y
         y += box.height + ROW
     engines = y
@@ -198,9 +208,11 @@ def place(boxes):
     translator.y = engines + (operators.y + operators.height - engines - translator.height) / 2
     evaluator.y = engines + (operators.y + operators.height - engines - evaluator.height) / 2
     promises.y = MARGIN
-    theorems.y = checks.y + checks.height - theorems.height
+    parsing.y = checks.y + checks.height - parsing.height
+    theorems.y = parsing.y - ROW - theorems.height
     agreement.y = (promises.height + MARGIN + theorems.y - agreement.height) / 2
-    definitions.y = checks.y + checks.height + ROW
+    grammar.y = checks.y + checks.height + ROW
+    definitions.y = grammar.y + grammar.height + ROW
     ground.y = definitions.y + definitions.height + ROW
     return ground.y + ground.height
 
@@ -225,8 +237,8 @@ def drawing():
     right = MARGIN + LEFT + GUTTER
     x_and_width = [(MARGIN, WIDTH - 2 * MARGIN), (MARGIN, WIDTH - 2 * MARGIN), (MARGIN, LEFT), (MARGIN, LEFT), (right, RIGHT),
                    (right + THIRD + 14, 2 * THIRD + 14), (right + 2 * THIRD + 28, THIRD), (right, THIRD),
-                   (right + THIRD + 14, THIRD), (right + 2 * THIRD + 28, THIRD), (right, RIGHT), (right, RIGHT),
-                   (MARGIN, LEFT)]
+                   (right + THIRD + 14, THIRD), (right + 2 * THIRD + 28, THIRD), (MARGIN, WIDTH - 2 * MARGIN),
+                   (MARGIN, LEFT), (right, RIGHT), (right, RIGHT), (right, RIGHT), (MARGIN, LEFT)]
     for group in [*GROUPS, PROMISES]:
         check_names(group, below)
     boxes = [Box(group, x, width, below) for group, (x, width) in zip([*GROUPS, PROMISES], x_and_width)]

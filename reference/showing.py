@@ -2,7 +2,8 @@
 
     python3 reference/showing.py                    writes crates/showing/data/cases.bin and stdout
     python3 reference/showing.py tables FOLDER      what it prints for the folder's query.bin and doc.bin
-    python3 reference/showing.py plan FOLDER        what it prints for the folder's plan.bin and doc.bin
+    python3 reference/showing.py typed FOLDER       .. for its query.xq and doc.bin
+    python3 reference/showing.py plan FOLDER        .. for its plan.bin and doc.bin
 
 Each operator has a heading: its number, the byte offset of its record, its mark and its fields in the order of the
 record. Below it stands its table, a line a row, each cell at the right of 12 characters; `no rows` where it is empty,
@@ -10,10 +11,10 @@ record. Below it stands its table, a line a row, each cell at the right of 12 ch
 
 After refusal 5, 6 or 7 the operator at the place is the last one shown. 5 comes before any work, so the tables shown
 there are those that the operators up to each make by themselves. After refusal 4 no operator is shown, nor after a
-refusal of the translator.
+refusal of the translator or of the reader of typed queries.
 
-A case is a byte (1 tables, 2 plan), the query or the plan, and the catalogue; a byte string has its length (2 bytes)
-before it. Of each case `case n` is printed, counted from 1, and then the text.
+A case is a byte (1 tables, 2 plan, 3 typed), the query, the plan or the text, and the catalogue; a byte string has its
+length (2 bytes) before it. Of each case `case n` is printed, counted from 1, and then the text.
 """
 
 import pathlib
@@ -26,19 +27,22 @@ import at_bounds
 import catalogue
 import examples
 import generate
+import open_points
 import plan
 import runner
 import some_plans
 import some_queries
 import stored
 import translator
+import typed
 from cells import TRUE, Refused, is_integer, is_node, rank
 from chartask import DOC_BYTES, PLAN_BYTES, QUERY_BYTES, WORK_CELLS
 from query import sound_fragment, sound_step
 
 OWN_PLAN_BYTES = 8192
 COLUMN = 12
-WORDS = {"tables": 1, "plan": 2}
+WORDS = {"tables": 1, "plan": 2, "typed": 3}
+FILES = {"tables": "query.bin", "plan": "plan.bin", "typed": "query.xq"}
 CRATE = "showing"
 
 # A drawn query whose text is longer is left out.
@@ -184,12 +188,24 @@ def lines_of_query(query_bytes, doc):
     return lines_of_plan(translated.lent[:translated.plan_bytes], doc)
 
 
+def lines_of_text(text, doc):
+    """Those of the query that is typed; or that it is refused."""
+    answer = typed.read_text(text, QUERY_BYTES)
+    if answer.refusal:
+        return [refused_line(answer)]
+    return lines_of_query(answer.lent[:answer.record_bytes], doc)
+
+
 def printed(word, first, doc):
     """The text, of the bytes of the files that the program reads."""
-    if word == "tables":
-        lines = lines_of_query(first[:QUERY_BYTES], doc[:DOC_BYTES])
-    else:
-        lines = lines_of_plan(first[:OWN_PLAN_BYTES], doc[:DOC_BYTES])
+    doc = doc[:DOC_BYTES]
+    match word:
+        case "tables":
+            lines = lines_of_query(first[:QUERY_BYTES], doc)
+        case "plan":
+            lines = lines_of_plan(first[:OWN_PLAN_BYTES], doc)
+        case "typed":
+            lines = lines_of_text(first, doc)
     return "".join(one + "\n" for one in lines)
 
 
@@ -247,6 +263,18 @@ def own_plans(rng):
     yield from long_plans()
 
 
+def texts():
+    """Typed queries with a catalogue: those that tell open points apart, and each refusal of the reader."""
+    yield b"for $a in root(1)/child::n2 return count($a/child::n3)", DOC
+    yield b"for $a in root(1)/child::n2 return count($a/child::n3)", at_bounds.UNSOUND_DOC
+    for _, rows in open_points.TYPED:
+        for text, _ in rows:
+            yield text.encode(), DOC
+    for text in (b"", b"1+", b"2147483648", b"$a", b"(" * 33, b"data(" * 33 + b"1" + b")" * 33,
+                 b",".join([b"1"] * 65), b",".join([b"-1"] * 64), b"1 idiv 0", b"root(9)"):
+        yield text, DOC
+
+
 def one_row_of(width):
     """The operator that makes a row of that width from table 0."""
     return some_plans.record(b"RP", 0, (0,) * width)
@@ -274,7 +302,7 @@ def cases():
     """Word, first file and catalogue of each case, each once."""
     rng = random.Random("showing 7")
     seen = set()
-    for word, pairs in (("tables", queries(rng)), ("plan", own_plans(rng))):
+    for word, pairs in (("tables", queries(rng)), ("plan", own_plans(rng)), ("typed", texts())):
         for first, doc in pairs:
             case = word, first[:OWN_PLAN_BYTES], doc[:DOC_BYTES]
             if case not in seen:
@@ -308,7 +336,7 @@ def main(arguments):
         print(__doc__)
         return 2
     word, folder = arguments[0], pathlib.Path(arguments[1])
-    text = printed(word, file(folder / ("query.bin" if word == "tables" else "plan.bin")), file(folder / "doc.bin"))
+    text = printed(word, file(folder / FILES[word]), file(folder / "doc.bin"))
     print(text, end="")
     return 1 if "refused " in text else 0
 

@@ -1,14 +1,17 @@
 """Cases as files keep them: the bytes, and what program `stored` must print of each.
 
-crates/stored/data has five files of cases: the two checks share one, each engine, the translator and the printing
-program have one of their own. crates/stored/stdout has a heading for each file, and under it what is printed of its
-cases. In checks.bin a case is a byte for the call, then a byte string. In the others a group is its number of cases
-(1 byte, never 0), then what its cases share, then what each case has of its own:
+crates/stored/data has seven files of cases: the two checks share one; each engine, the translator, the printing
+program, and the reader and the writer of typed queries have one of their own. crates/stored/stdout has a heading for
+each file, and under it what is printed of its cases. In checks.bin a case is a byte for the call, then a byte string.
+In the others a group is its number of cases (1 byte, never 0), then what its cases share, then what each case has of
+its own:
 
     evaluations.bin      query, catalogue; of its own: the lent cells
     translations.bin     query; of its own: the lent bytes
     runs.bin             plan, catalogue; of its own: the lent cells
     texts.bin            catalogue; of its own: the query
+    typed.bin            text; of its own: the lent bytes
+    written.bin          query; of its own: the lent bytes
 
 A byte string has its length (2 bytes) before it; lent cells or bytes are a number of 4 bytes. All numbers are
 big-endian. Every lent cell or byte holds 9 before the call.
@@ -20,11 +23,12 @@ from itertools import groupby, islice
 import generate
 
 CRATE = pathlib.Path(__file__).resolve().parent.parent / "crates" / "stored"
-FILES = ("checks", "evaluations", "translations", "runs", "texts")
+FILES = ("checks", "evaluations", "translations", "runs", "texts", "typed", "written")
 FILE_OF = {"check_catalogue": "checks", "check_query": "checks", "evaluate": "evaluations",
-           "translate": "translations", "run": "runs", "chartask": "texts"}
+           "translate": "translations", "run": "runs", "chartask": "texts", "read_text": "typed",
+           "write_text": "written"}
 CHECKS = {"check_catalogue": 1, "check_query": 2}
-SHARED = {"evaluate": 2, "translate": 1, "run": 2, "chartask": 1}
+SHARED = {"evaluate": 2, "translate": 1, "run": 2, "chartask": 1, "read_text": 1, "write_text": 1}
 HEADING = "== "
 MOST_IN_A_GROUP = 255
 
@@ -57,12 +61,14 @@ def sum_of_cells(lent):
     return total
 
 
-FIGURES = {"evaluate": ("items", "count"), "run": ("start", "rows", "cells"), "translate": ("operators", "bytes")}
+FIGURES = {"evaluate": ("items", "count"), "run": ("start", "rows", "cells"), "translate": ("operators", "bytes"),
+           "read_text": ("records", "bytes"), "write_text": ("text",)}
+OF_CELLS = ("evaluate", "run")
 
 
 def line(call, answer):
     """The answer's figures, or the refusal and its place; then the sum of all that was lent."""
-    total = sum_of_bytes(answer.lent) if call == "translate" else sum_of_cells(answer.lent)
+    total = sum_of_cells(answer.lent) if call in OF_CELLS else sum_of_bytes(answer.lent)
     if answer.refusal:
         return f"refused {answer.refusal} at {answer.place} sum {total}\n"
     figures = " ".join(f"{word} {figure}" for word, figure in zip(FIGURES[call], answer[2:]))

@@ -1,37 +1,50 @@
 """Writes the cases that program `stored` is run on, and what it must print.
 
     python3 reference/vectors.py                the two checks: checks.bin, and its part of stdout
-    python3 reference/vectors.py evaluate       evaluations.bin and its part; likewise translate, run and chartask
+    python3 reference/vectors.py evaluate       evaluations.bin and its part; likewise translate, run, chartask,
+                                                read_text (typed.bin) and write_text (written.bin)
     python3 reference/vectors.py all            all of these
     python3 reference/vectors.py faults         plants the faults and tries them on the files as they stand
     python3 reference/vectors.py order          the faults of order: how many stored texts tell, and how many shuffled runs
 
-How the files are laid out is said in stored.py. What must be printed is the model's alone.
+How the files are laid out is said in stored.py. What must be printed is the model's alone. Of typed texts both readers
+must give the same before a file is written.
 """
 
 import random
+import struct
 import sys
 
 sys.dont_write_bytecode = True
 
 import at_bounds
+import check
+import check_texts
 import faults
-import faults_in_engines  # each of the four notes its faults
+import faults_in_engines  # each of the five notes its faults
 import faults_in_meaning
 import faults_in_order
 import faults_in_readers
+import faults_in_texts
 import generate
 import query
 import some_queries
+import some_texts
 import stored
+import typed
 from chartask import DOC_BYTES, QUERY_BYTES
 from rooms import bytes_needed, cells_needed, items_needed
 
 SEED = 7
+MOST_LENT = 5000
 
 # How many are drawn beside the cases at a bound; where something is lent, each is tried with several lengths.
 DRAWN = {"check_catalogue": 1800, "check_query": 2400, "evaluate": 1000, "run": 900, "translate": 860,
-         "chartask": 1990}
+         "chartask": 1990, "read_text": 700, "write_text": 300}
+
+
+# The calls that have no file of cases.
+NOT_STORED = {"read_sheets", "write_sheets"}
 
 
 def lent_lengths(rng, needed):
@@ -65,7 +78,20 @@ def drawn_translation(rng):
     return name, (query_bytes,), bytes_needed(query_bytes)
 
 
-LENT = {"evaluate": drawn_evaluation, "run": drawn_run, "translate": drawn_translation}
+def drawn_typing(rng):
+    text = some_texts.any_text(rng, rng.choice((6, 14, 30)))
+    return "drawn", (text,), typed.read_text(text, MOST_LENT).record_bytes
+
+
+def drawn_wording(rng):
+    query_bytes = some_queries.drawn(rng, rng.choice((4, 12, 30)))
+    if rng.random() < 0.15:
+        query_bytes = some_queries.damaged(rng, query_bytes)
+    return "drawn", (query_bytes,), typed.write_text(query_bytes, MOST_LENT).text_bytes
+
+
+LENT = {"evaluate": drawn_evaluation, "run": drawn_run, "translate": drawn_translation, "read_text": drawn_typing,
+        "write_text": drawn_wording}
 
 
 def inputs_with_lengths(call):
@@ -107,7 +133,7 @@ def tells(call, given, text, number):
         return faults.leans(*given)
     try:
         now = stored.printed_now("chartask" if call == "agreement" else call, given, number)
-    except (IndexError, KeyError, TypeError, ValueError) as error:
+    except (IndexError, KeyError, TypeError, ValueError, struct.error) as error:
         now = type(error).__name__
     return now.endswith("same no\n") if call == "agreement" else now != text
 
@@ -134,7 +160,8 @@ def plant_faults():
         wrong = [number for given, text, number in its_cases if stored.printed_now(call, given, number) != text]
         yield f"{call}: {len(its_cases)} stored cases, {len(wrong)} of them not as the model prints them"
     caught = moved = 0
-    for fault in faults.FAULTS:
+    all_faults = [fault for fault in faults.FAULTS if not NOT_STORED.intersection(fault.calls)]
+    for fault in all_faults:
         found = first_to_tell(fault, kept)
         caught += found is not None
         if found is None:
@@ -143,7 +170,7 @@ def plant_faults():
             moved += 1
             if told_in_a_plain_run(fault, kept):
                 yield f"NOT CAUGHT by moved rows alone, as it is noted: {fault.name}"
-    yield f"{caught} of {len(faults.FAULTS)} faults caught by the stored cases, {moved} of them only where rows are moved"
+    yield f"{caught} of {len(all_faults)} faults caught by the stored cases, {moved} of them only where rows are moved"
 
 
 def count_of_order():
@@ -167,19 +194,27 @@ def report(what):
         yield write_checks()
     for call in stored.SHARED:
         if what in (call, "all"):
-            yield stored.write(stored.FILE_OF[call], cases(call))
+            its_cases = cases(call)
+            if call == "read_text":
+                texts = dict.fromkeys(case.given[0] for case in its_cases)
+                yield check_texts.compare("typed", check_texts.TYPED, texts)
+            yield stored.write(stored.FILE_OF[call], its_cases)
 
 
 def main(arguments):
-    """The exit status: 2 for a word that is no command, 1 where a fault is not caught."""
+    """The exit status: 2 for a word that is no command, 1 where a fault is not caught or the readers differ."""
     what = arguments[0] if arguments else "checks"
     if what not in ("checks", "all", "faults", "order", *stored.SHARED):
         print(__doc__)
         return 2
     well = True
-    for text in report(what):
-        well = well and not text.startswith("NOT CAUGHT")
-        print(text, flush=True)
+    try:
+        for text in report(what):
+            well = well and not text.startswith("NOT CAUGHT")
+            print(text, flush=True)
+    except check.Wrong as wrong:
+        print(f"WRONG: {wrong}")
+        return 1
     return 0 if well else 1
 
 

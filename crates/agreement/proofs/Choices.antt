@@ -7,7 +7,7 @@
 --     decision                 the condition's truth in an iteration
 --     then-loops               the then-loop holds the iterations whose condition is true
 --     rule-I                   the agreement of QI
---     Parted m ρ l n vars      the iterations of m parted in two: those of loop n, and the others of loop l
+--     TwoLoops m ρ l n vars    the iterations of m parted in two: those of loop n, and the others of loop l
 --     parted                   .. by a condition
 use Prim.Native.Nat.{ℕ, _<_}
 use native.Mathlib.Omega.{arith}
@@ -235,7 +235,7 @@ module _ (w : World) (lawful : Lawful w) (m : Mask) (c : List Triple) (s : Famil
       go (oneDoesNot i k e r) = fails-gives (truths-run ∙ r) d
 
 -- the loops of both branches, and what the variables hold in them
-pub record Parted (m : Mask) (ρ : ℕ → Env) (l n : Loop) (vars : Vars) : Type 0 where
+pub record TwoLoops (m : Mask) (ρ : ℕ → Env) (l n : Loop) (vars : Vars) : Type 0 where
   pub chosen : Mask
   pub chosen-loop : Loops n chosen
   pub chosen-holds : HoldsVars chosen ρ (λ u. keptIn n (vars u))
@@ -245,7 +245,7 @@ pub record Parted (m : Mask) (ρ : ℕ → Env) (l n : Loop) (vars : Vars) : Typ
 
 pub parted : (w : World) → Lawful w → {m : Mask} {c : List Triple} (h : Shown m c) (ρ : ℕ → Env) (l : Loop)
     (vars : Vars) → Loops l m → HoldsVars m ρ vars → (ds : List (ℕ × Bool)) → truthsOf w c ≡ gives ds
-    → Parted m ρ l (thenLoop ds) vars
+    → TwoLoops m ρ l (thenLoop ds) vars
 parted w lawful {m} {c} h ρ l vars loops holds ds d =
     let chosen = decision w lawful m c (h .family) (h .outside) (h .rows) in
     let sub = inside w lawful m c (h .family) (h .outside) (h .rows) in

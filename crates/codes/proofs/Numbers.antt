@@ -1,5 +1,6 @@
--- Numbers that name nothing, and tests whose name fits.
+-- Numbers that name nothing, tests whose name fits, and numbers that read back.
 --     axis-none, function-none, test-none     a number that a `match` found to be none of the known ones
+--     axis-back, function-back, test-back     the number of each is read as itself
 --     name-fits     a test that is read has a name of two bytes, as its record has
 use Prim.Native.Nat.{ℕ, _<_}
 use mathlib.Core.Path.{_≡_, refl}
@@ -8,10 +9,16 @@ use mathlib.Core.List.{[], _∷_}
 use borrow.Author.Tests.{ne-eqb}
 use lib.Dec.{eqb}
 use native.Mathlib.Omega.{arith}
-use Rattle.laws.specs.Attempt.{fails, provided, Given}
+use Rattle.laws.specs.Attempt.{fails, gives, provided, Given}
 use Rattle.laws.proofs.Outcomes.{given-fails, given-gives, given-cond, given-provided}
+use Rattle.codes.specs.declared.Function.{Function}
+use Rattle.codes.specs.declared.Function.the-variants.{Add, Subtract, Multiply, Divide, Equal, Less}
+use Rattle.codes.specs.declared.Axis.{Axis}
+use Rattle.codes.specs.declared.Axis.the-variants.{Child, Descendant, DescendantOrSelf, Itself, Parent}
+use Rattle.codes.specs.declared.Axis.the-variants.{Ancestor, Following, Preceding}
 use Rattle.codes.specs.declared.Test.{Test}
-use Rattle.codes.specs.Codes.{functionOf, axisOf, testOf, testName, NoneOf}
+use Rattle.codes.specs.declared.Test.the-variants.{AnyNode, Element, Text, Named}
+use Rattle.codes.specs.Codes.{functionOf, functionNumber, axisOf, axisNumber, testOf, testNumber, testName, NoneOf}
 
 pub axis-none : (n : ℕ) → NoneOf n (0 ∷ 8 ∷ 7 ∷ 6 ∷ 5 ∷ 4 ∷ 3 ∷ 2 ∷ 1 ∷ []) → axisOf n ≡ fails
 unfolding axisOf
@@ -51,3 +58,30 @@ name-fits n name h =
     given-cond (eqb n 0) (given-gives (omega arith))
     (given-cond (eqb n 1) (given-gives (omega arith))
     (given-cond (eqb n 2) (given-gives (omega arith)) given-fails))))
+
+pub function-back : (f : Function) → functionOf (functionNumber f) ≡ gives f
+unfolding functionOf functionNumber
+function-back Add = refl
+function-back Subtract = refl
+function-back Multiply = refl
+function-back Divide = refl
+function-back Equal = refl
+function-back Less = refl
+
+pub axis-back : (x : Axis) → axisOf (axisNumber x) ≡ gives x
+unfolding axisOf axisNumber
+axis-back Child = refl
+axis-back Descendant = refl
+axis-back DescendantOrSelf = refl
+axis-back Itself = refl
+axis-back Parent = refl
+axis-back Ancestor = refl
+axis-back Following = refl
+axis-back Preceding = refl
+
+pub test-back : (y : Test) → testOf (testNumber y) (testName y) ≡ gives y
+unfolding testOf testNumber testName provided
+test-back AnyNode = refl
+test-back Element = refl
+test-back Text = refl
+test-back (Named n) = refl

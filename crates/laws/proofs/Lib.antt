@@ -9,3 +9,4 @@ pub mod Joins
 pub mod Groups
 pub mod Merging
 pub mod Outcomes
+pub mod Characters

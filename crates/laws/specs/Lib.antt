@@ -3,3 +3,4 @@ pub mod Sorting
 pub mod Rows
 pub mod Keyed
 pub mod Attempt
+pub mod Characters

@@ -1,2 +1,2 @@
-// No code: this crate holds definitions on lists and their laws.
+// No code: this crate holds definitions on lists and characters, and their laws.
 pub fn nothing() {}

@@ -2,3 +2,4 @@ pub mod Penned
 pub mod Putting
 pub mod Digits
 pub mod Magnitudes
+pub mod Amounts

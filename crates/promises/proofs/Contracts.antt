@@ -3,15 +3,17 @@
 --     contracts         the answer, and what is left, are those of the call
 --     decided           two outcomes that a contract allows are equal
 --     in-hand           demand 3 of what a caller has in hand
+--     back-in-hand      the round trip of what a caller has in hand
 --     told-never        what `tell` leaves never holds `same no`
 use Prim.Native.Nat.{ℕ, _+_}
-use mathlib.Core.Path.{_≡_, refl, sym, _∙_, subst}
+use mathlib.Core.Path.{_≡_, refl, sym, ap, _∙_, subst, subst₃}
 use mathlib.Core.List.{List, [], _∷_}
 use lib.IntN.{ℤ}
 use lib.ListN.{length, take}
-use Rattle.laws.specs.Rows.{laid}
+use Rattle.laws.specs.Rows.{laid, padded}
 use Rattle.meaning.specs.Calls.{Answer, gives, translateCall}
 use Rattle.agreement.specs.Passing.{HeldOutcome}
+use Rattle.agreement.proofs.EngineCalls.{take-padded}
 use Rattle.agreement.proofs.EnginesAgree.{agree-in-hand}
 use Rattle.catalogue.specs.Answers as Catalogue
 use Rattle.catalogue.proofs.Decided as CatalogueDecided
@@ -24,12 +26,23 @@ use Rattle.runner.specs.Answers as Runner
 use Rattle.runner.proofs.Decided as RunnerDecided
 use Rattle.evaluator.specs.Answers as Evaluator
 use Rattle.evaluator.proofs.Decided as EvaluatorDecided
+use Rattle.grammar.specs.Grammar.{expr}
+use Rattle.grammar.specs.Typed.{TypedCall}
+use Rattle.grammar.specs.Written.{textOf}
+use Rattle.grammar.proofs.Writing.{written-call}
+use Rattle.reader.specs.Answers as Reader
+use Rattle.reader.specs.declared.Typed.the-variants.{Records}
+use Rattle.reader.proofs.Decided as ReaderDecided
+use Rattle.wording.specs.Answers as Writer
+use Rattle.wording.specs.declared.Written.the-variants.{Text}
+use Rattle.wording.proofs.Decided as WriterDecided
 use Rattle.lines.specs.Text.{sameNo, Nowhere}
 use Rattle.lines.specs.Printed.{runItems, printed}
 use Rattle.printing.specs.Engines.{planned, planRun}
 use Rattle.answers.specs.Second.{second}
 use Rattle.promises.specs.Contracts.{TellAllows}
-use Rattle.promises.specs.Promises.{Contracts, Decides, Demand3InHand}
+use Rattle.promises.specs.Promises.{Contracts, Decides, Demand3InHand, RoundTripInHand}
+use Rattle.promises.proofs.TypedCalls.{write-written}
 
 pub contracts : Contracts
 contracts =
@@ -39,6 +52,10 @@ contracts =
       translate = λ query bytes a bytes′ h. let (x, y) = h .contract in record { answers = cc; leaves = cc };
       run = λ plan doc work a work′ h. let (x, y) = h .contract in record { answers = cc; leaves = cc };
       evaluate = λ query doc work a work′ h. let (x, y) = h .contract in record { answers = cc; leaves = cc };
+      read = λ text query a query′ h.
+          subst₃ (λ (t q q′ : List ℕ). TypedCall t (length q) (Reader.outcome a q′)) (h .of-text) (h .lent) (h .left)
+          (h .contract);
+      write = λ query text a text′ h. let (x, y) = h .contract in record { answers = cc; leaves = cc };
     }
 
 -- what `tell` leaves, by its query, its catalogue and what it was lent
@@ -81,6 +98,13 @@ decided =
           let x = contracts .evaluate query doc work a xs h in
           let y = contracts .evaluate query doc work b ys k in
           (EvaluatorDecided.same-answer a b (x .answers ∙ sym (y .answers)), x .leaves ∙ sym (y .leaves));
+      read = λ text query a b xs ys h k.
+          ReaderDecided.decided text (length query) a b xs ys (contracts .read text query a xs h)
+          (contracts .read text query b ys k);
+      write = λ query text a b xs ys h k.
+          let x = contracts .write query text a xs h in
+          let y = contracts .write query text b ys k in
+          (WriterDecided.same-answer a b (x .answers ∙ sym (y .answers)), x .leaves ∙ sym (y .leaves));
       tell = λ query doc work kept text n m ps qs ws xs ks ls ts us h k. (
         tell-end query doc work kept text n ps ws ks ts h ∙ sym (tell-end query doc work kept text m qs xs ls us k),
         tell-plan query doc work kept text n ps ws ks ts h ∙ sym (tell-plan query doc work kept text m qs xs ls us k),
@@ -99,6 +123,26 @@ in-hand query doc bytes bytes′ work work′ cells cells′ r e n m rows small 
     (Evaluator.answered e) _ _ _ n m rows small (contracts .translate query bytes (Plan n m) bytes′ ht) refl
     (contracts .catalogue doc _ hk) refl (contracts .run (take m bytes′) doc work r work′ hr) not-run
     (contracts .evaluate query doc cells e cells′ he) not-evaluation
+
+-- the text's bytes are the query's text, and of that the call has one outcome
+pub back-in-hand : RoundTripInHand
+unfolding Writer.answered Reader.answered
+back-in-hand query text text′ bytes bytes′ n a small hw hr enough =
+    let w = contracts .write query text (Text n) text′ hw in
+    let (r, e, long, left) = write-written query (length text) n (sym (w .answers)) in
+    let t : List ℕ = textOf expr (r .tree) in
+    let held : take n text′ ≡ t =
+    ap (take n) (w .leaves ∙ left) ∙ take-padded 0 (length text) t n long
+    in
+    let back : TypedCall t (length bytes) (Reader.outcome a bytes′) =
+    subst (λ (x : List ℕ). TypedCall x (length bytes) (Reader.outcome a bytes′)) held
+    (contracts .read (take n text′) bytes a bytes′ hr)
+    in
+    let same =
+    ReaderDecided.decided t (length bytes) a (Records (r .records) (length query)) bytes′
+    (padded 0 (length bytes) query) back (written-call query r (length bytes) small e enough)
+    in
+    (r, e, same .0, same .1)
 
 pub told-never : (query doc : List ℕ) (work kept : List ℤ) (text : List ℕ) (n : ℕ) (plan′ : List ℕ)
     (work′ kept′ : List ℤ) (text′ : List ℕ) → TellAllows query doc work kept text n plan′ work′ kept′ text′

@@ -6,6 +6,8 @@
 --     TranslateAllows query b a b′       .. of `translator::translate`, lent bytes b, to answer a and leave b′
 --     RunAllows plan doc w a w′          .. of `runner::run`, lent cells w, to answer a and leave w′
 --     EvaluateAllows query doc w a w′    .. of `evaluator::evaluate`
+--     ReadAllows text b a b′             .. of `reader::read`, lent bytes b, to answer a and leave b′
+--     WriteAllows query t a t′           .. of `wording::write`, lent bytes t, to answer a and leave t′
 --     TellAllows query doc w k t n ..    .. of `printing::tell`, lent cells w, cells k and bytes t besides the plan's,
 --                                        to answer n and leave plan′, work′, kept′ and text′
 use Prim.Native.Nat.{ℕ}
@@ -31,6 +33,12 @@ use Rattle.runner.proofs.run.Kinds as RunKinds
 use Rattle.evaluator.specs.declared.Evaluated.{Evaluated}
 use Rattle.evaluator.proofs.evaluate.Reads as Evaluate
 use Rattle.evaluator.proofs.evaluate.Kinds as EvaluateKinds
+use Rattle.reader.specs.declared.Typed.{Typed}
+use Rattle.reader.proofs.read.Reads as Read
+use Rattle.reader.proofs.read.Kinds as ReadKinds
+use Rattle.wording.specs.declared.Written.{Written}
+use Rattle.wording.proofs.write.Reads as Write
+use Rattle.wording.proofs.write.Kinds as WriteKinds
 use Rattle.printing.proofs.tell.Reads as Tell
 use Rattle.printing.proofs.tell.Kinds as TellKinds
 
@@ -76,6 +84,24 @@ pub record EvaluateAllows (query doc : List ℕ) (work : List ℤ) (answer : Eva
   pub of-doc : now (given .1 .0) ≡ doc
   pub lent : now (given .1 .1 .0) ≡ work
   pub left : now (end .1 .1 .0) ≡ work′
+
+pub record ReadAllows (text query : List ℕ) (answer : Typed) (query′ : List ℕ) : Type 0 where
+  pub lifetimes : Lfts 2
+  pub given : Dens lifetimes ReadKinds.ps
+  pub end : AtExit (endedOf 2 ReadKinds.ps ReadKinds.r) lifetimes
+  pub contract : Read.Learnt lifetimes given answer end
+  pub of-text : now (given .0) ≡ text
+  pub lent : now (given .1 .0) ≡ query
+  pub left : now (end .1 .0) ≡ query′
+
+pub record WriteAllows (query text : List ℕ) (answer : Written) (text′ : List ℕ) : Type 0 where
+  pub lifetimes : Lfts 2
+  pub given : Dens lifetimes WriteKinds.ps
+  pub end : AtExit (endedOf 2 WriteKinds.ps WriteKinds.r) lifetimes
+  pub contract : Write.Learnt lifetimes given answer end
+  pub of-query : now (given .0) ≡ query
+  pub lent : now (given .1 .0) ≡ text
+  pub left : now (end .1 .0) ≡ text′
 
 pub record TellAllows (query doc : List ℕ) (work kept : List ℤ) (text : List ℕ) (n : ℕ) (plan′ : List ℕ)
     (work′ kept′ : List ℤ) (text′ : List ℕ) : Type 0 where

@@ -1,7 +1,7 @@
 -- What the calls promise, on one page: statements only; proofs/Promises.antt cites a proof of each. The calls are those
--- of crates/meaning/specs/Calls.antt. What passes its checks, and what an answer says, is worded in
--- crates/agreement/specs/Passing.antt; how a contract is cited, in specs/Contracts.antt. That a call ends is no
--- statement here: Rattle proves it of every function.
+-- of crates/meaning/specs/Calls.antt and, for typed queries, of crates/grammar/specs (Typed.antt, Written.antt). What
+-- passes its checks, and what an answer says, is worded in crates/agreement/specs/Passing.antt; how a contract is
+-- cited, in specs/Contracts.antt. That a call ends is no statement here: Rattle proves it of every function.
 --     Refuses a from          answer a is a refusal with number n at p exactly where `from n p`
 --     OfCatalogue, OfQuery    where the refusals of each call come from: 4; 1 2 3
 --     OfTranslation           .. 1 2 3 of the query, 2 at 0 over 512 operators, then 8 at 0
@@ -21,8 +21,16 @@
 --     Evaluations, Runs       what it always answers and leaves, on input that passes its checks
 --     firstAlone              a run of the first operator alone
 --     ShutOut                 the engines that document 01 shuts out
+--     OneReading              typed queries: one reading; a text is typed or outside, never both, at one place
+--     OfReading, OfWriting    where the refusals of `read` and `write` come from: 9, 2 3, then 8 at 0; 1 2 3, then 8
+--                             at 0
+--     TypedRefusals           each refuses by these, and by no other; a refusal leaves zeros
+--     TypedAnswers            an answer is what the definitions say: the text's records, the query's text
+--     RoundTrip               a query's text is read as that query
+--     RoundTripInHand         .. of the bytes that a caller of write, then read, has in hand
 use Prim.Native.Nat.{ℕ, _-_, _*_, _≤_, _<_}
 use mathlib.Core.Path.{_≡_}
+use mathlib.Core.Logic.{_⊎_}
 use mathlib.Core.List.{List, [], _∷_}
 use lib.IntN.{ℤ, pos}
 use lib.ListN.{length, take, getD}
@@ -54,10 +62,19 @@ use Rattle.runner.specs.declared.Ran.{Ran}
 use Rattle.runner.specs.Answers as Runner
 use Rattle.evaluator.specs.declared.Evaluated.{Evaluated}
 use Rattle.evaluator.specs.Answers as Evaluator
+use Rattle.grammar.specs.Grammar.{expr}
+use Rattle.grammar.specs.Typed.{Typed, Outside, TypedCall}
+use Rattle.grammar.specs.Written.{textOf, writeCall}
+use Rattle.reader.specs.declared.Typed.{Typed as TypedRead}
+use Rattle.reader.specs.declared.Typed.the-variants.{Records}
+use Rattle.reader.specs.Answers as Reader
+use Rattle.wording.specs.declared.Written.{Written}
+use Rattle.wording.specs.declared.Written.the-variants.{Text}
+use Rattle.wording.specs.Answers as Writer
 use Rattle.lines.specs.Text.{sameNo, Nowhere}
 use Rattle.lines.specs.Printed.{printed}
 use Rattle.promises.specs.Contracts.{CatalogueAllows, QueryAllows, TranslateAllows, RunAllows, EvaluateAllows}
-use Rattle.promises.specs.Contracts.{TellAllows}
+use Rattle.promises.specs.Contracts.{ReadAllows, WriteAllows, TellAllows}
 use Rattle.agreement.specs.Passing.{Passed, means, stands, evaluation, PlanPassed, makes, fills, theRun, Refused}
 use Rattle.order.specs.Shuffled.{Shuffles}
 use Rattle.order.specs.Order.{Unmoved}
@@ -181,7 +198,7 @@ pub record RoomSentence : Type 0 where
       → evaluateCall query doc lent .answer ≡ gives (items ∷ count ∷ []) → count ≡ stands i
 
 -- CONTRACTS. What each public function's own `ensures` tells its caller: the answer, and all that was lent for
--- writing, are those of its call
+-- writing, are those of its call. The call of `read` is a relation over the grammar, `TypedCall`
 
 pub record Contracts : Type 0 where
   pub catalogue : (doc : List ℕ) (a : Catalogued) → CatalogueAllows doc a → Catalogue.answered a ≡ catalogueCall doc
@@ -193,6 +210,10 @@ pub record Contracts : Type 0 where
   pub evaluate : (query doc : List ℕ) (work : List ℤ) (a : Evaluated) (work′ : List ℤ)
       → EvaluateAllows query doc work a work′
       → HeldOutcome (evaluateCall query doc (length work)) (Evaluator.answered a) work′
+  pub read : (text query : List ℕ) (a : TypedRead) (query′ : List ℕ) → ReadAllows text query a query′
+      → TypedCall text (length query) (record { answer = Reader.answered a; left = query′ })
+  pub write : (query text : List ℕ) (a : Written) (text′ : List ℕ) → WriteAllows query text a text′
+      → HeldOutcome (writeCall query (length text)) (Writer.answered a) text′
 
 -- DECIDED. They leave no choice: neither in the answer nor in any byte or cell that was lent
 
@@ -205,6 +226,10 @@ pub record Decides : Type 0 where
       → RunAllows plan doc work b ys → (a ≡ b) × (xs ≡ ys)
   pub evaluate : (query doc : List ℕ) (work : List ℤ) (a b : Evaluated) (xs ys : List ℤ)
       → EvaluateAllows query doc work a xs → EvaluateAllows query doc work b ys → (a ≡ b) × (xs ≡ ys)
+  pub read : (text query : List ℕ) (a b : TypedRead) (xs ys : List ℕ) → ReadAllows text query a xs
+      → ReadAllows text query b ys → (a ≡ b) × (xs ≡ ys)
+  pub write : (query text : List ℕ) (a b : Written) (xs ys : List ℕ) → WriteAllows query text a xs
+      → WriteAllows query text b ys → (a ≡ b) × (xs ≡ ys)
   -- .. and `tell`, which `chartask` prints from: the text's end, the plan's bytes, the cells, the kept items, the text
   pub tell : (query doc : List ℕ) (work kept : List ℤ) (text : List ℕ) (n m : ℕ) (ps qs : List ℕ)
       (ws xs ks ls : List ℤ) (ts us : List ℕ) → TellAllows query doc work kept text n ps ws ks ts
@@ -287,3 +312,76 @@ pub record ShutOut (f : Engine) : Type 0 where
   pub invented-cells : (bytes doc : List ℕ) (i : PlanPassed bytes doc) (cells : List ℤ) → Bytes bytes → Bytes doc
       → Cells cells → (start rows filled : ℕ) → f bytes doc cells .answer ≡ gives (start ∷ rows ∷ filled ∷ [])
       → ¬ (filled ≡ fills i) → ¬ (Keeps runCall f)
+
+-- TYPED QUERIES (document 02, L1). The grammar, crates/grammar/specs/Grammar.antt, is written down without a reader. A
+-- text is typed, `Typed text bs`, if it spells the words of a part, and bs are the part's records; it is outside at p,
+-- `Outside text p`, if it spells none, and p is its first byte that no text of the grammar could have there, or its
+-- length. The reading is the only one; a text is typed or outside, never both, and outside at one place alone. At most
+-- 32 grouping parentheses are open at once: that is in the type of a text's part, `Part expr mostGroups`, where each
+-- pair takes one of the 32
+
+pub record OneReading : Type 0 where
+  pub only : (text bs bs′ : List ℕ) → Typed text bs → Typed text bs′ → bs ≡ bs′
+  pub typed-or-outside : (text : List ℕ) → ((bs : List ℕ) × Typed text bs) ⊎ ((p : ℕ) × Outside text p)
+  pub never-both : (text bs : List ℕ) (p : ℕ) → Typed text bs → ¬ (Outside text p)
+  pub one-place : (text : List ℕ) (p q : ℕ) → Outside text p → Outside text q → p ≡ q
+
+-- THEIR REFUSALS, whatever the text or the query and whatever is lent. Reading: 9 exactly for the texts outside, at
+-- that place; then 2 or 3, and never 1, where the check of the records refuses so, at its place; then 8 at 0 where they
+-- are longer than what was lent. Writing: those of the query check; then 8 at 0 where the text is longer than what was
+-- lent. A refusal zeroes what was lent for writing; a slice keeps its length
+
+pub data OfReading (text : List ℕ) (lent n p : ℕ) : Type 0 where
+  ofGrammar : Outside text p → n ≡ 9 → OfReading text lent n p
+  ofRecords : (bs : List ℕ) → Typed text bs → 2 ≤ n → n ≤ 3 → queryRead bs ≡ refuses n p → OfReading text lent n p
+  recordsLonger : (bs : List ℕ) → Typed text bs → (r : Read) → queryRead bs ≡ reads r → lent < length bs → n ≡ 8
+      → p ≡ 0 → OfReading text lent n p
+
+pub data OfWriting (query : List ℕ) (lent n p : ℕ) : Type 0 where
+  ofQuery : OfQuery query n p → OfWriting query lent n p
+  textLonger : (r : Read) → queryRead query ≡ reads r → lent < length (textOf expr (r .tree)) → n ≡ 8 → p ≡ 0
+      → OfWriting query lent n p
+
+pub record TypedRefusals : Type 0 where
+  pub read-refuses : (text : List ℕ) (lent : ℕ) (o : Outcome ℕ) → TypedCall text lent o
+      → Refuses (o .answer) (OfReading text lent)
+  pub read-clears : (text : List ℕ) (call : ℕ → Outcome ℕ) → ((lent : ℕ) → TypedCall text lent (call lent))
+      → Cleared 0 call
+  pub write-refuses : (query : List ℕ) (lent : ℕ) → Refuses (writeCall query lent .answer) (OfWriting query lent)
+  pub write-clears : (query : List ℕ) → Cleared 0 (writeCall query)
+
+-- THEIR ANSWERS. What an answer says is what the definitions say, and what they say is answered where enough bytes are
+-- lent: the records that a text is read as, the text of a query, zeros after each. Every text has an outcome
+
+pub record TypedAnswers : Type 0 where
+  pub read-answers : (text : List ℕ) (lent : ℕ) → (o : Outcome ℕ) × TypedCall text lent o
+  pub read-gives : (text bs : List ℕ) → Typed text bs → (r : Read) → queryRead bs ≡ reads r → (lent : ℕ)
+      → length bs ≤ lent → (o : Outcome ℕ) → TypedCall text lent o
+      → o ≡ record { answer = gives (r .records ∷ length bs ∷ []); left = padded 0 lent bs }
+  pub read-gave : (text : List ℕ) (lent : ℕ) (o : Outcome ℕ) → TypedCall text lent o → (n m : ℕ)
+      → o .answer ≡ gives (n ∷ m ∷ [])
+      → (bs : List ℕ) × (r : Read) × Typed text bs × (queryRead bs ≡ reads r) × (n ≡ r .records) × (m ≡ length bs)
+      × (o .left ≡ padded 0 lent bs)
+  pub write-gives : (query : List ℕ) (r : Read) → queryRead query ≡ reads r → (lent : ℕ)
+      → length (textOf expr (r .tree)) ≤ lent
+      → writeCall query lent .answer ≡ gives (length (textOf expr (r .tree)) ∷ [])
+  pub write-gave : (query : List ℕ) (lent n : ℕ) → writeCall query lent .answer ≡ gives (n ∷ [])
+      → (r : Read) × (queryRead query ≡ reads r) × (n ≡ length (textOf expr (r .tree)))
+      × (writeCall query lent .left ≡ padded 0 lent (textOf expr (r .tree)))
+
+-- ROUND TRIP. The text of an accepted query is typed, and read as that query's own bytes
+
+abbrev pub RoundTrip : Type 0
+RoundTrip =
+    (query : List ℕ) → Bytes query → (r : Read) → queryRead query ≡ reads r → Typed (textOf expr (r .tree)) query
+
+-- ROUND TRIP in hand, for whoever calls write, then read with the text's bytes, lends at least as many bytes as the
+-- query has, and reads their contracts: the query was accepted, and its records are back, zeros after them
+
+abbrev pub RoundTripInHand : Type 0
+RoundTripInHand =
+    (query text text′ bytes bytes′ : List ℕ) (n : ℕ) (a : TypedRead) → Bytes query
+    → WriteAllows query text (Text n) text′
+    → ReadAllows (take n text′) bytes a bytes′ → length query ≤ length bytes
+    → (r : Read) × (queryRead query ≡ reads r) × (a ≡ Records (r .records) (length query))
+    × (bytes′ ≡ padded 0 (length bytes) query)

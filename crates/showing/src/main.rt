@@ -1,11 +1,13 @@
 // Program `showing`: each operator of a plan with its number, its byte offset and its fields, and its table as the
-// runner laid it in the lent cells. The word `tables` shows the plan of the query in `query.bin`, the word `plan` that
-// in `plan.bin`, both over the catalogue in `doc.bin`; `cases` shows the stored cases of `cases.bin`.
+// runner laid it in the lent cells. The word `tables` shows the plan of the query in `query.bin`, the word `typed` that
+// of the typed query in `query.xq`, the word `plan` that in `plan.bin`, all over the catalogue in `doc.bin`; `cases`
+// shows the stored cases of `cases.bin`.
 ghost use Prim.Native.Nat.{_+_, _≤_, _<_};
 ghost use mathlib.Core.Path.{_≡_};
 ghost use lib.ListN.{length};
 ghost use Rattle.shown_records.specs.Records.{Within};
 use libc::STDOUT_FILENO;
+use reader::Typed;
 use runner::Ran;
 use shown_records::Seen;
 use shown_records::ShownField;
@@ -222,6 +224,26 @@ fn show_query(query: &[u8], doc: &[u8]) {
     }
 }
 
+// The query in the first bytes of what was lent for its records; it is no longer than that.
+fn show_read(query: &[u8], bytes: usize, doc: &[u8]) {
+    if bytes <= query.len() {
+        show_query(&query[0..bytes], doc);
+    }
+}
+
+// The plan of a typed query, or why it has none.
+fn show_typed(typed: &[u8], doc: &[u8]) {
+    let mut query = [0u8; 1024];
+    let read = reader::read(typed, &mut query);
+    match read {
+        Typed::Records { bytes, .. } => show_read(&query, bytes, doc),
+        Typed::Outside(place) => show_refusal(9, place),
+        Typed::Excess(place) => show_refusal(2, place),
+        Typed::Unbound(place) => show_refusal(3, place),
+        Typed::Longer => show_refusal(8, 0),
+    }
+}
+
 // Reads a file to the start of `space`, no further than that is long, and answers how many bytes it read. A missing
 // file is empty.
 fn load(path: &[u8], space: &mut [u8]) -> usize
@@ -241,6 +263,20 @@ fn show_query_file(doc: &[u8]) {
     show_query(&query[0..n], doc);
 }
 
+// The word `typed`. A text has at most 4,096 bytes; a byte more is lent, so that a longer one is seen and not cut.
+fn show_typed_file(doc: &[u8]) {
+    let mut typed = [0u8; 4097];
+    let n = load(b"query.xq", &mut typed);
+    if 4096 < n {
+        io::write_all(
+            libc::STDERR_FILENO,
+            b"showing: query.xq is longer than 4096 bytes\n",
+        );
+        return;
+    }
+    show_typed(&typed[0..n], doc);
+}
+
 // The word `plan`. 512 operators have no more than 6,144 bytes, so a longer plan is refused.
 fn show_plan_file(doc: &[u8]) {
     let mut plan = [0u8; 8192];
@@ -248,27 +284,42 @@ fn show_plan_file(doc: &[u8]) {
     show_plan(&plan[0..n], doc);
 }
 
-// Shows a query or a plan over the catalogue in `doc.bin`.
-fn show_files(is_query: bool) {
+// What is shown: the query in `query.bin`, the typed one in `query.xq`, or the plan in `plan.bin`.
+enum Source {
+    Query,
+    Text,
+    Plan,
+}
+
+// Shows it over the catalogue in `doc.bin`.
+fn show_files(source: Source) {
     let mut doc = [0u8; 20490];
     let m = load(b"doc.bin", &mut doc);
-    if is_query {
-        show_query_file(&doc[0..m]);
-    } else {
-        show_plan_file(&doc[0..m]);
+    match source {
+        Source::Query => show_query_file(&doc[0..m]),
+        Source::Text => show_typed_file(&doc[0..m]),
+        Source::Plan => show_plan_file(&doc[0..m]),
     }
 }
 
-// A stored case: the query (word 1) or the plan (word 2), then the catalogue.
+// The words `tables` and `typed`, by their second letter.
+fn show_word(second: u8) {
+    match second {
+        b'y' => show_files(Source::Text),
+        _ => show_files(Source::Query),
+    }
+}
+
+// A stored case: the query (word 1), the plan (word 2) or the typed query (word 3), then the catalogue.
 fn show_case(fd: i32, word: usize) {
     let mut first = [0u8; 8192];
     let mut doc = [0u8; 20490];
     let n = cases::load(fd, &mut first);
     let m = cases::load(fd, &mut doc);
-    if word == 1 {
-        show_query(&first[0..n], &doc[0..m]);
-    } else {
-        show_plan(&first[0..n], &doc[0..m]);
+    match word {
+        1 => show_query(&first[0..n], &doc[0..m]),
+        3 => show_typed(&first[0..n], &doc[0..m]),
+        _ => show_plan(&first[0..n], &doc[0..m]),
     }
 }
 
@@ -297,13 +348,13 @@ fn main() {
     let mut word = [0u8; 16];
     os::arg(1, &mut word);
     match word[0] {
-        b't' => show_files(true),
-        b'p' => show_files(false),
+        b't' => show_word(word[1]),
+        b'p' => show_files(Source::Plan),
         b'c' => show_cases(),
         _ => {
             io::write_all(
                 libc::STDERR_FILENO,
-                b"showing: give the word tables, plan or cases\n",
+                b"showing: give the word tables, typed, plan or cases\n",
             );
         }
     }

@@ -30,7 +30,8 @@ use Rattle.codes.specs.declared.Test.{Test}
 use Rattle.codes.specs.declared.Test.the-variants.{AnyNode, Element, Text, Named}
 use Rattle.laws.specs.Attempt.{Attempt, gives, attempt, provided}
 use Rattle.meaning.specs.Query.{fragmentOf}
-use Rattle.codes.specs.Codes.{functionOf, axisOf, testOf, functionNumber, axisNumber, testNumber, testName}
+use Rattle.codes.proofs.Numbers.{function-back, axis-back, test-back}
+use Rattle.codes.specs.Codes.{functionOf, functionNumber, axisNumber, testNumber, testName}
 use Rattle.meaning.specs.Plan.{Op, RT, RA, RP, RU, RD, RS, RJ, RN, RF, RV, RC, RE, RK, RX, RO, markRT, markRA, markRP}
 use Rattle.meaning.specs.Plan.{markRU, markRD, markRS, markRJ, markRN, markRF, markRC, markRE, markRK, markRX, markRO}
 use Rattle.meaning.specs.Plan.{plainIn, columnsAt, sized, attachAt, projectAt, numberAt, functionAt, stepAt, operatorOf}
@@ -94,15 +95,6 @@ plain-mag (negsuc n) h = let k = plain-negsuc n h in omega arith
 
 -- Numbers of functions, axes and tests
 
-function-back : (f : Function) → functionOf (functionNumber f) ≡ gives f
-unfolding functionOf functionNumber
-function-back Add = refl
-function-back Subtract = refl
-function-back Multiply = refl
-function-back Divide = refl
-function-back Equal = refl
-function-back Less = refl
-
 function-not-7 : (f : Function) → eqb (functionNumber f) 7 ≡ false
 unfolding functionNumber
 function-not-7 Add = refl
@@ -111,24 +103,6 @@ function-not-7 Multiply = refl
 function-not-7 Divide = refl
 function-not-7 Equal = refl
 function-not-7 Less = refl
-
-axis-back : (x : Axis) → axisOf (axisNumber x) ≡ gives x
-unfolding axisOf axisNumber
-axis-back Child = refl
-axis-back Descendant = refl
-axis-back DescendantOrSelf = refl
-axis-back Itself = refl
-axis-back Parent = refl
-axis-back Ancestor = refl
-axis-back Following = refl
-axis-back Preceding = refl
-
-test-back : (y : Test) → testOf (testNumber y) (testName y) ≡ gives y
-unfolding testOf testNumber testName provided
-test-back AnyNode = refl
-test-back Element = refl
-test-back Text = refl
-test-back (Named n) = refl
 
 fragment-back : (k : ℕ) → 1 ≤ k → k ≤ 255 → fragmentOf k ≡ gives k
 unfolding fragmentOf provided

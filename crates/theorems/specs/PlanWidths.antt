@@ -1,12 +1,12 @@
 -- Plans whose operators fit (document 01, 'Plan operators' and 'Translation').
---     Every P xs        P holds of every member of xs
---     widths ws os      the widths of all tables when os follow tables of widths ws, or that an operator does not fit
---     TableWide ws t w  among tables of widths ws there is a table t, and it is w wide
---     Fits ws o w       operator o fits tables of widths ws and makes one of width w
---     EndsWide ws os us   operators os fit one after another, and leave tables of widths us
---     StepsWide ws vs os us operators os fit after tables ws and vs, and leave us after ws
---     WellMade ws x     the operators of x fit, and its result is 3 wide
---     EnvWide ws e vs   the table of each variable of vs is 3 wide
+--     Every P xs              P holds of every member of xs
+--     widths ws os            the widths of all tables when os follow tables of widths ws, or that one does not fit
+--     TableWide ws t w        among tables of widths ws there is a table t, and it is w wide
+--     Fits ws o w             operator o fits tables of widths ws and makes one of width w
+--     EndsWide ws os us       operators os fit one after another, and leave tables of widths us
+--     StepsWide ws vs os us   operators os fit after tables ws and vs, and leave us after ws
+--     WellMade ws x           the operators of x fit, and its result is 3 wide
+--     EnvWide ws e vs         the table of each variable of vs is 3 wide
 use Prim.Native.Nat.{ℕ, _+_, _<_}
 use mathlib.Core.Path.{_≡_}
 use mathlib.Core.List.{List, [], _∷_, _++_}
