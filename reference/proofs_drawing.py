@@ -85,6 +85,8 @@ PROMISES = Group("what is promised, on one page", "promises", "promises", "specs
                   ("Demand3InHand", "the same, for whoever calls the code"),
                   ("RoomSentence", "6 exactly where the room is too small"),
                   ("OrderFree", "no plan leans on how rows stand"), ("NeverNo", "chartask never prints `same no`"),
+                  ("OneReading", "a typed text is read in one way, if any"),
+                  ("RoundTrip", "a query written as text reads back"),
                   ("Contracts", "what each call's own text tells a caller"),
                   ("Decides", "a contract leaves no choice"), ("ShutOut", "engines that keep no contract")))
 
