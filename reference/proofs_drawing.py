@@ -55,7 +55,8 @@ GROUPS = [
           "tables rows rowwise whole searching joining row_order sorting numbering members counting judging stepping "
           "gathering groups", "specs",
           (("Owes", "one promise for each operator"),)),
-    Group("the translator", "code", "pen writing adding leaf_rules rules lifting scopes translating translator", "specs",
+    Group("the translator", "code",
+          "pen writing adding leaf_rules rules lifting scopes carrying translating translator", "specs",
           (("answered", "its contract: translateCall"),)),
     Group("the evaluator", "code", "working_parts working evaluator", "specs",
           (("answered", "its contract: evaluateCall"),)),

@@ -1,35 +1,30 @@
 -- What a rule writes, from what its operands and its own operators write.
---     set-eight            a row of eight with another table was one before
 --     wrote-is             equal operators
 --     then-append          operators in two parts, then a rule's
 --     one-made, two-made   one operand, or two, then the rule's last operators
 --     let-made, for-made, branch-made, choice-made    QT; QF; a branch of QI; QI
 use Prim.Native.Nat.{ℕ, _+_}
-use mathlib.Core.Path.{_≡_, refl, sym, ap, ap₂, _∙_, subst}
-use mathlib.Core.Bool.{Bool, false}
+use mathlib.Core.Path.{_≡_, refl, ap, ap₂, _∙_, subst}
 use mathlib.Core.List.{List, [], _∷_, _++_, append-assoc}
 use native.Mathlib.Omega.{arith}
-use lib.ListN.{length, set, length-append, length-set}
+use lib.ListN.{length, set, length-append}
 use Rattle.meaning.specs.Plan.{Op, RU}
-use Rattle.meaning.specs.Query.{Query, QT, QF, QI, free}
+use Rattle.meaning.specs.Query.{Query, QT, QF, QI}
 use Rattle.meaning.specs.Translation.{Made, Tables, next, hold, freeIn, othersIn, lifts, lifted, headF, tailF, headI}
 use Rattle.meaning.specs.Translation.{then, tr}
-use Rattle.query_walks.specs.Parse.{Parsed, Free}
+use Rattle.query_walks.specs.Parse.{Parsed}
 use Rattle.adding.specs.declared.Pen.{Pen}
 use Rattle.adding.specs.declared.Output.{Output}
 use Rattle.lifting.specs.declared.Lifted.{Lifted}
 use Rattle.adding.specs.Ruled.{Wrote, Ruled}
-use Rattle.lifting.specs.Lifts.{Lifts, HoldsTables, flagged}
+use Rattle.lifting.specs.Lifts.{HoldsTables}
+use Rattle.carrying.specs.Carried.{IntoBranch, IntoBody}
 use Rattle.scopes.specs.Choices.{choice}
 use Rattle.adding.proofs.Adding.{ruled-then}
-use Rattle.lifting.proofs.Lifting.{hold-holds, flagged-free, flagged-others, lifts-wrote, lifts-holds}
+use Rattle.lifting.proofs.Lifting.{hold-holds}
 use Rattle.translating.specs.Translating.{Tree, Two, Three, Makes, MakesBranch, branched}
 use Rattle.translating.proofs.Rooms.{moved}
 use Rattle.translating.proofs.Splitting.{ruled-is}
-
--- a row of eight with another table was one before
-pub set-eight : (ts row : List ℕ) (v t : ℕ) → row ≡ set ts v t → length row ≡ 8 → length ts ≡ 8
-set-eight ts row v t e h = sym (length-set ts v t) ∙ sym (ap length e) ∙ h
 
 pub wrote-is : {os ps : List Op} {x y : List ℕ} {p q : Pen} → os ≡ ps → Wrote os x p y q → Wrote ps x p y q
 wrote-is {x = x} {y} {p} {q} e w = subst (λ (os : List Op). Wrote os x p y q) e w
@@ -102,12 +97,10 @@ module _
       (second g (hold v (r .table) e) i))
 
   module _
-      (v : ℕ) (eight : length ts ≡ 8) (fs : List Bool) (flags : length fs ≡ 8) (free : Free (rd (r .next)) fs)
-      {z w b t : List ℕ} {q : Pen} {a : Lifted} {s u : Output}
+      (v : ℕ) {z w b t : List ℕ} {q : Pen} {a : Lifted} {s u : Output}
       (head : Wrote (headF (r .pen .operators) (r .table)) y (r .pen) z q)
-      (lift : Lifts ts (r .pen .operators + 4) (4 ∷ 1 ∷ 2 ∷ []) (flagged (set fs v false) 8) z q w a)
-      (inner : length (a .tables) ≡ 8)
-      (body : Makes (rd (r .next)) (r .pen .operators + 3) (set (a .tables) v (r .pen .operators + 2)) w (a .pen) b s)
+      (carried : IntoBody (rd (r .next)) v (r .pen .operators + 2) (r .pen .operators + 4) ts z q w a)
+      (body : Makes (rd (r .next)) (r .pen .operators + 3) (a .tables) w (a .pen) b s)
       (tail : Ruled (tailF (s .pen .operators) (s .table) (r .pen .operators + 4)) (s .next) b (s .pen) t u) where
     -- the number after a's operators, the variables to be lifted, and the number after their operators
     m′ : ℕ
@@ -131,34 +124,25 @@ module _
     tree : Tree (rd (r .next))
     tree = moved rd (first .after) (o .b)
 
-    others : flagged (set fs v false) 8 ≡ us
-    unfolding us
-    others = flagged-others fs v (o .b .q) flags (free (o .b .q, o .b .end) (ap rd (first .after) ∙ o .b .given))
-
     head′ : Wrote (headF m′ (tr (o .a .q) (p .operators) l e .result)) y (r .pen) z q
     head′ = wrote-is (ap₂ headF at-m (first .table)) head
 
     lift′ : Wrote (lifts e (m′ + 4) (4 ∷ 1 ∷ 2 ∷ []) (m′ + 5) us) z q w (a .pen)
+    unfolding us tree
     lift′ =
         wrote-is (ap₂ (λ (i j : ℕ). lifts e (i + 4) (4 ∷ 1 ∷ 2 ∷ []) j us) at-m at-head)
-        (lifts-wrote ts _ _ (set fs v false) _ _ _ a lift e h us others)
+        (carried .wrote (o .b .q) (o .b .end) (tree .given) e h)
 
     at-lift : a .pen .operators ≡ k′
     unfolding k′
     at-lift = lift′ .count ∙ ap (λ (i : ℕ). i + length (lifts e (m′ + 4) (4 ∷ 1 ∷ 2 ∷ []) (m′ + 5) us)) at-head
 
-    holds′ :
-        HoldsTables (set (a .tables) v (r .pen .operators + 2))
-        (hold v (r .pen .operators + 2) (lifted e (q .operators) us))
-    holds′ =
-        hold-holds (a .tables) (lifted e (q .operators) us) v (r .pen .operators + 2) inner
-        (lifts-holds ts _ _ (set fs v false) _ _ _ a lift e h us others)
-
     body′ : Ruled (tr (o .b .q) k′ (m′ + 3) (hold v (m′ + 2) (lifted e (m′ + 5) us))) (o .b .end) w (a .pen) b s
-    unfolding tree
+    unfolding tree us
     body′ =
         ruled-is (alike at-lift at-m at-head) refl
-        (body .made tree (hold v (r .pen .operators + 2) (lifted e (q .operators) us)) holds′)
+        (body .made tree (hold v (r .pen .operators + 2) (lifted e (q .operators) us))
+        (carried .holds (o .b .q) (o .b .end) (tree .given) e h))
       where
         alike :
             {i j k i′ j′ k″ : ℕ} → i ≡ i′ → j ≡ j′ → k ≡ k″ →
@@ -184,15 +168,13 @@ module _
 -- A branch of QI
 
 pub branch-made :
-    {d : Parsed} {l : ℕ} {ts : List ℕ} (fs : List Bool) {x y z : List ℕ} {p : Pen} {a : Lifted} {r : Output} →
-    Free d fs →
-    Lifts ts l (0 ∷ 1 ∷ 2 ∷ []) (flagged fs 8) x p y a → Makes d l (a .tables) y (a .pen) z r →
+    {d : Parsed} {l : ℕ} {ts x y z : List ℕ} {p : Pen} {a : Lifted} {r : Output} → IntoBranch d l ts x p y a →
+    Makes d l (a .tables) y (a .pen) z r →
     (t : Tree d) (e : Tables) → HoldsTables ts e → Ruled (branched (t .q) (p .operators) l e) (t .end) x p z r
 unfolding branched
-branch-made {l = l} {ts} fs {x} {y} {z} {p} {a} free lift body t e h =
-    let us = flagged-free fs (t .q) (free (t .q, t .end) (t .given)) in
-    let w = lifts-wrote ts l (0 ∷ 1 ∷ 2 ∷ []) fs x y p a lift e h (freeIn (t .q)) us in
-    let i = lifts-holds ts l (0 ∷ 1 ∷ 2 ∷ []) fs x y p a lift e h (freeIn (t .q)) us in
+branch-made {l = l} {p = p} carried body t e h =
+    let w = carried .wrote (t .q) (t .end) (t .given) e h in
+    let i = carried .holds (t .q) (t .end) (t .given) e h in
     let f = lifted e (p .operators) (freeIn (t .q)) in
     ruled-then w (ruled-is (ap (λ (n : ℕ). tr (t .q) n l f) (w .count)) refl (body .made t f i))
 

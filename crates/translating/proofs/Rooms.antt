@@ -2,15 +2,14 @@
 --     room-less            less room
 --     room-after           the room after an expression's operators
 --     moved                a tree, read from an equal offset
---     own, ruled-own       what an operand leaves, over the row's own tables
+--     ruled-own            what an operand leaves, over the row's own tables
 --     only-asked, one-room                  one operand: its room, and the room after it
 --     first-asked, second-asked, two-room   two operands: the room of each, and the room after both
---     body-lift, body-asked, body-room      QF's body: the room for lifting, for the body, and after it
---     branch-lift, branch-asked             a branch of QI: the room for lifting, and for the branch
+--     head-room, body-asked, body-room      QF's body: the room for lifting, for the body, and after it
+--     branch-asked                          a branch of QI: the room for it, after lifting
 --     condition-asked, then-asked, else-asked, choice-room    QI: the room of each operand, and after them
 use Prim.Native.Nat.{ℕ, suc, _+_, _*_, _≤_}
-use mathlib.Core.Path.{_≡_, refl, ap, _∙_}
-use mathlib.Core.Bool.{Bool}
+use mathlib.Core.Path.{_≡_, ap, _∙_}
 use mathlib.Core.List.{List, [], _∷_}
 use native.Mathlib.Omega.{arith}
 use lib.ListN.{length, length-append}
@@ -23,9 +22,10 @@ use Rattle.adding.specs.declared.Pen.{Pen}
 use Rattle.adding.specs.declared.Output.{Output}
 use Rattle.lifting.specs.declared.Lifted.{Lifted}
 use Rattle.adding.specs.Ruled.{PenRoom, Wrote, Ruled}
-use Rattle.lifting.specs.Lifts.{Lifts, HoldsTables, tablesOf, flagged}
+use Rattle.lifting.specs.Lifts.{tablesOf}
+use Rattle.carrying.specs.Carried.{IntoBranch, IntoBody}
 use Rattle.adding.proofs.Adding.{wrote-room}
-use Rattle.lifting.proofs.Lifting.{lifts-all-room}
+use Rattle.carrying.proofs.Carrying.{own, into-branch-room, into-body-room}
 use Rattle.translating.specs.Translating.{Tree, Asked, AskedOne, AskedTwo, AskedThree, AskedBranch}
 use Rattle.translating.specs.Translating.{Makes, MakesBranch, branched}
 
@@ -39,10 +39,6 @@ room-after q n l e g j k h b = wrote-room (g .wrote) j k h (omega (arith, tr-bou
 
 abbrev pub moved : (rd : ℕ → Parsed) {m n : ℕ} → m ≡ n → Tree (rd n) → Tree (rd m)
 moved rd e t = record { q = t .q; end = t .end; given = ap rd e ∙ t .given }
-
--- the row's own tables
-pub own : (ts : List ℕ) → HoldsTables ts (tablesOf ts)
-own ts v h = refl
 
 -- what an operand leaves, over the row's own tables
 pub ruled-own :
@@ -96,10 +92,10 @@ module _ (f : Query → Query → Query) (more : (a b : Query) → records (f a 
       head-room = wrote-room g _ _ first-room (omega arith)
 
       module _
-          (fs : List Bool) {us cs : List ℕ} {k : ℕ} {w : List ℕ} {a : Lifted} (i : Lifts us k cs
-          (flagged fs 8) z q w a) where
+          {v o k : ℕ} {us w : List ℕ} {a : Lifted} (i : IntoBody (rd (r .next)) v o k us z q w a) where
         lifted-room : PenRoom (a .pen) (16 + 37 * records (h .operands .b .q))
-        lifted-room = lifts-all-room fs i _ _ head-room (omega arith)
+        lifted-room =
+            into-body-room (second-tree .q) (second-tree .end) (second-tree .given) i _ _ head-room (omega arith)
 
         pub body-asked : Asked (rd (r .next)) (a .pen)
         body-asked = record { tree = second-tree; room = room-less _ lifted-room (omega arith) }
@@ -111,9 +107,11 @@ module _ (f : Query → Query → Query) (more : (a b : Query) → records (f a 
 -- A branch of QI
 
 pub branch-asked :
-    {d : Parsed} {us cs : List ℕ} {k : ℕ} (fs : List Bool) {x y : List ℕ} {p : Pen} {a : Lifted} → AskedBranch d p →
-    Lifts us k cs (flagged fs 8) x p y a → Asked d (a .pen)
-branch-asked fs h i = record { tree = h .tree; room = lifts-all-room fs i _ _ (h .room) (omega arith) }
+    {d : Parsed} {l : ℕ} {us x y : List ℕ} {p : Pen} {a : Lifted} → AskedBranch d p → IntoBranch d l us x p y a →
+    Asked d (a .pen)
+branch-asked h i =
+    let t = h .tree in
+    record { tree = t; room = into-branch-room (t .q) (t .end) (t .given) i _ _ (h .room) (omega arith) }
 
 branch-bound : (q : Query) (n l : ℕ) (e : Tables) → length (branched q n l e .ops) ≤ 16 + 37 * records q
 unfolding branched then

@@ -143,11 +143,9 @@ fn for_each(
     let p = a.pen;
     let m = p.operators;
     let q = scopes::for_head(plan, p, a.table);
-    let others = lifting::without(query_walks::free(query, body, depth), v);
-    let lifted = lifting::lift(plan, q, tables, others, m + 4, 4);
-    let outer = lifted.tables;
-    let inner = lifting::hold(outer, v, m + 2);
-    let s = lifted.pen;
+    let carried = carrying::into_body(query, body, depth, v, m + 2, m + 4, tables, q, plan);
+    let inner = carried.tables;
+    let s = carried.pen;
     let b = expression(query, body, depth, m + 3, inner, s, plan);
     let t = b.pen;
     scopes::for_tail(plan, t, b.table, m + 4, b.next)
@@ -192,10 +190,9 @@ fn branch(
     ensures { λ r. ⌜ MakesBranch (parse depth (now (query .entry)) at) l tables (now (plan .entry)) pen (now
         (plan .exit)) r ⌝ }
 {
-    let flags = query_walks::free(query, at, depth);
-    let lifted = lifting::lift(plan, pen, tables, flags, l, 0);
-    let inner = lifted.tables;
-    let p = lifted.pen;
+    let carried = carrying::into_branch(query, at, depth, l, tables, pen, plan);
+    let inner = carried.tables;
+    let p = carried.pen;
     expression(query, at, depth, l, inner, p, plan)
 }
 

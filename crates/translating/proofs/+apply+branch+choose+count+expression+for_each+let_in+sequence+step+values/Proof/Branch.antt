@@ -9,35 +9,28 @@ use Rattle.translating.proofs.expression.Reads as expression
 use Rattle.translating.proofs as parts
 use parts.+apply+branch+choose+count+expression+for_each+let_in+sequence+step+values as cycle
 use cycle.Lts-branch as branch-lts
-use Rattle.query_walks.proofs.free.Reads as free-reads
-use Rattle.lifting.proofs.lift.Reads as lift-reads
+use Rattle.carrying.proofs.into_branch.Reads as into-branch-reads
 use cycle.Proof.Measures.{branch-at, expression-below}
 
 abbrev pub callees : ℕ → branch-lts.Claims
 callees t = (
-  free-reads.Asked,
-  free-reads.Learnt,
-  lift-reads.Asked,
-  lift-reads.Learnt,
+  into-branch-reads.Asked,
+  into-branch-reads.Learnt,
   expression-below t,
   expression.Post,
 )
 
 module _ (t : ℕ) where
-  pub free-requires : branch-lts.Need-free-requires (callees t) (branch-at t) branch.Post
-  free-requires c κs = search needs
-
-  pub lift-requires : branch-lts.Need-lift-requires (callees t) (branch-at t) branch.Post
-  lift-requires c κs =
-      let start = c .before .before .before .before in
+  pub into-branch-requires : branch-lts.Need-into-branch-requires (callees t) (branch-at t) branch.Post
+  into-branch-requires c κs =
+      let start = c .before .before .before in
       room-less 16 (start .pre .1 .room) (omega arith)
 
   pub expression-requires : branch-lts.Need-expression-requires (callees t) (branch-at t) branch.Post
   expression-requires c κs =
-      let lift = c .before .before .before .before .before in
-      let flags = lift .before .before in
-      let start = flags .before .before .before in
-      (omega (arith, start .pre .0), branch-asked (flags .free .result) (start .pre .1) (lift .lift .ensures))
+      let carried = c .before .before .before .before .before in
+      let start = carried .before .before .before .before in
+      (omega (arith, start .pre .0), branch-asked (start .pre .1) (carried .into-branch .ensures))
 
   pub same-length : branch-lts.Need-same-length (callees t) (branch-at t) branch.Post
   same-length c = search needs
@@ -45,10 +38,7 @@ module _ (t : ℕ) where
   pub returns : branch-lts.Need-returns (callees t) (branch-at t) branch.Post
   returns c =
       let body = c .before .before in
-      let lift = body .before .before .before .before .before .before in
-      let flags = lift .before .before in
+      let carried = body .before .before .before .before .before .before in
       record {
-        made = λ o e h.
-            branch-made (flags .free .result) (flags .free .ensures) (lift .lift .ensures) (body .expression .ensures) o
-            e h;
+        made = λ o e h. branch-made (carried .into-branch .ensures) (body .expression .ensures) o e h;
       }

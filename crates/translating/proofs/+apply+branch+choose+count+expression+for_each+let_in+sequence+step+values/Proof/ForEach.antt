@@ -1,14 +1,12 @@
 -- `for_each` meets its contract: a, the variable, the lifted variables, b, then the rule's last operators.
 use Prim.Native.Nat.{ℕ}
-use Prim.Native.Nat.{_+_}
 use mathlib.Core.Path.{refl}
 use native.Mathlib.Omega.{arith}
 use lib.Dec.{lit≤}
 use Rattle.meaning.specs.Query.{QF}
 use Rattle.query_walks.specs.Parse.{parse}
 use Rattle.translating.proofs.Rooms.{room-less, first-asked, first-room, head-room, body-asked, body-room}
-use Rattle.translating.proofs.Composing.{for-made, set-eight}
-use borrow.Author.Needs.{needs}
+use Rattle.translating.proofs.Composing.{for-made}
 use Rattle.translating.proofs.expression.Reads as expression
 use Rattle.translating.proofs.for_each.Reads as for-each
 use Rattle.translating.proofs as parts
@@ -16,10 +14,7 @@ use parts.+apply+branch+choose+count+expression+for_each+let_in+sequence+step+va
 use cycle.Lts-for_each as for-each-lts
 use Rattle.scopes.proofs.for_head.Reads as for-head-reads
 use Rattle.scopes.proofs.for_tail.Reads as for-tail-reads
-use Rattle.query_walks.proofs.free.Reads as free-reads
-use Rattle.lifting.proofs.hold.Reads as hold-reads
-use Rattle.lifting.proofs.lift.Reads as lift-reads
-use Rattle.lifting.proofs.without.Reads as without-reads
+use Rattle.carrying.proofs.into_body.Reads as into-body-reads
 use cycle.Proof.Measures.{for-each-at, expression-below}
 
 abbrev pub callees : ℕ → for-each-lts.Claims
@@ -28,29 +23,23 @@ callees t = (
   expression.Post,
   for-head-reads.Asked,
   for-head-reads.Learnt,
-  free-reads.Asked,
-  free-reads.Learnt,
-  without-reads.Asked,
-  without-reads.Learnt,
-  lift-reads.Asked,
-  lift-reads.Learnt,
-  hold-reads.Asked,
-  hold-reads.Learnt,
+  into-body-reads.Asked,
+  into-body-reads.Learnt,
   for-tail-reads.Asked,
   for-tail-reads.Learnt,
 )
 
 module _ (t : ℕ) where
-  -- the places on the way: the head written, the variables lifted
+  -- the places on the way: the head written, the variables carried into the body
   abbrev head-of :
-      for-each-lts.After-lift (callees t) (for-each-at t) for-each.Post →
+      for-each-lts.After-into-body (callees t) (for-each-at t) for-each.Post →
       for-each-lts.After-for-head (callees t) (for-each-at t) for-each.Post
-  head-of c = c .before .before .before .before .before .before
+  head-of c = c .before .before .before .before
 
-  abbrev lift-of :
+  abbrev carried-of :
       for-each-lts.After-expression2 (callees t) (for-each-at t) for-each.Post →
-      for-each-lts.After-lift (callees t) (for-each-at t) for-each.Post
-  lift-of c = c .before .before .before .before .before .before .before
+      for-each-lts.After-into-body (callees t) (for-each-at t) for-each.Post
+  carried-of c = c .before .before .before .before .before .before
 
   pub expression-requires : for-each-lts.Need-expression-requires (callees t) (for-each-at t) for-each.Post
   expression-requires c κs =
@@ -66,15 +55,9 @@ module _ (t : ℕ) where
       room-less 5 (first-room (QF 0 (a .v)) (λ a b. refl) rd (a .at) (a .pen) (start .pre .1)
       (first .expression .ensures)) (omega arith)
 
-  pub free-requires : for-each-lts.Need-free-requires (callees t) (for-each-at t) for-each.Post
-  free-requires c κs = search needs
-
-  pub without-requires : for-each-lts.Need-without-requires (callees t) (for-each-at t) for-each.Post
-  without-requires c κs = search needs
-
-  pub add-lift : for-each-lts.Need-add-lift (callees t) (for-each-at t) for-each.Post
-  add-lift c =
-      let head = c .before .before .before .before .before in
+  pub add-into-body : for-each-lts.Need-add-into-body (callees t) (for-each-at t) for-each.Post
+  add-into-body c =
+      let head = c .before .before in
       let first = head .before .before .before .before .before in
       let start = first .before .before .before .before in
       let a = start .args in
@@ -85,9 +68,22 @@ module _ (t : ℕ) where
             (first .expression .ensures),
       )
 
-  pub lift-requires : for-each-lts.Need-lift-requires (callees t) (for-each-at t) for-each.Post
-  lift-requires c κs =
-      let head = c .before .before .before .before .before in
+  pub add-into-body-2 : for-each-lts.Need-add-into-body-2 (callees t) (for-each-at t) for-each.Post
+  add-into-body-2 c =
+      let head = c .before .before in
+      let first = head .before .before .before .before .before in
+      let start = first .before .before .before .before in
+      let a = start .args in
+      let rd = parse (a .depth) (a .query .now) in
+      omega (
+        arith,
+        first-room (QF 0 (a .v)) (λ a b. refl) rd (a .at) (a .pen) (start .pre .1)
+            (first .expression .ensures),
+      )
+
+  pub into-body-requires : for-each-lts.Need-into-body-requires (callees t) (for-each-at t) for-each.Post
+  into-body-requires c κs =
+      let head = c .before .before .before in
       let first = head .before .before .before .before .before in
       let start = first .before .before .before .before in
       let a = start .args in
@@ -98,27 +94,10 @@ module _ (t : ℕ) where
       (first .expression .result .table) (head .for-head .ensures))
       (omega arith)
 
-  pub add-hold : for-each-lts.Need-add-hold (callees t) (for-each-at t) for-each.Post
-  add-hold c =
-      let lift = c .before .before .before in
-      let head = head-of lift in
-      let first = head .before .before .before .before .before in
-      let start = first .before .before .before .before in
-      let a = start .args in
-      let rd = parse (a .depth) (a .query .now) in
-      omega (
-        arith,
-        first-room (QF 0 (a .v)) (λ a b. refl) rd (a .at) (a .pen) (start .pre .1)
-            (first .expression .ensures),
-      )
-
-  pub hold-requires : for-each-lts.Need-hold-requires (callees t) (for-each-at t) for-each.Post
-  hold-requires c κs = search needs
-
   pub add-expression : for-each-lts.Need-add-expression (callees t) (for-each-at t) for-each.Post
   add-expression c =
-      let lift = c .before .before .before .before .before in
-      let head = head-of lift in
+      let carried = c .before .before .before .before in
+      let head = head-of carried in
       let first = head .before .before .before .before .before in
       let start = first .before .before .before .before in
       let a = start .args in
@@ -131,9 +110,8 @@ module _ (t : ℕ) where
 
   pub expression-requires-2 : for-each-lts.Need-expression-requires-2 (callees t) (for-each-at t) for-each.Post
   expression-requires-2 c κs =
-      let lift = c .before .before .before .before .before .before in
-      let others = lift .before .before in
-      let head = others .before .before .before .before in
+      let carried = c .before .before .before .before .before in
+      let head = head-of carried in
       let first = head .before .before .before .before .before in
       let start = first .before .before .before .before in
       let a = start .args in
@@ -142,14 +120,14 @@ module _ (t : ℕ) where
         body-asked (QF 0 (a .v)) (λ a b. refl) rd (a .at) (a .pen) (start .pre .1) (first .expression .ensures)
             (first .expression .result .pen .operators)
             (first .expression .result .table) (head .for-head .ensures)
-            (others .without .result) (lift .lift .ensures),
+            (carried .into-body .ensures),
       )
 
   pub add-for-tail : for-each-lts.Need-add-for-tail (callees t) (for-each-at t) for-each.Post
   add-for-tail c =
       let body = c .before .before .before .before in
-      let lift = lift-of body in
-      let head = head-of lift in
+      let carried = carried-of body in
+      let head = head-of carried in
       let first = head .before .before .before .before .before in
       let start = first .before .before .before .before in
       let a = start .args in
@@ -163,9 +141,8 @@ module _ (t : ℕ) where
   pub for-tail-requires : for-each-lts.Need-for-tail-requires (callees t) (for-each-at t) for-each.Post
   for-tail-requires c κs =
       let body = c .before .before .before .before in
-      let lift = lift-of body in
-      let others = lift .before .before in
-      let head = others .before .before .before .before in
+      let carried = carried-of body in
+      let head = head-of carried in
       let first = head .before .before .before .before .before in
       let start = first .before .before .before .before in
       let a = start .args in
@@ -174,21 +151,21 @@ module _ (t : ℕ) where
       (body-room (QF 0 (a .v)) (λ a b. refl) rd (a .at) (a .pen) (start .pre .1) (first .expression .ensures)
       (first .expression .result .pen .operators)
       (first .expression .result .table) (head .for-head .ensures)
-      (others .without .result) (lift .lift .ensures) (body .expression2 .ensures))
+      (carried .into-body .ensures) (body .expression2 .ensures))
       (lit≤ tt)
 
   pub same-length : for-each-lts.Need-same-length (callees t) (for-each-at t) for-each.Post
   same-length c =
       let tail = c .before .before in
       let body = tail .before .before .before .before .before in
-      let lift = lift-of body in
-      let head = head-of lift in
+      let carried = carried-of body in
+      let head = head-of carried in
       let first = head .before .before .before .before .before in
       omega (
         arith,
         first .expression .kept,
         head .for-head .kept,
-        lift .lift .kept,
+        carried .into-body .kept,
         body .expression2 .kept,
         tail .for-tail
             .kept,
@@ -198,23 +175,15 @@ module _ (t : ℕ) where
   returns c =
       let tail = c .before .before in
       let body = tail .before .before .before .before .before in
-      let bound = body .before .before .before in
-      let lift = bound .before .before .before .before in
-      let others = lift .before .before in
-      let flags = others .before in
-      let head = flags .before .before .before in
+      let carried = carried-of body in
+      let head = head-of carried in
       let first = head .before .before .before .before .before in
       let start = first .before .before .before .before in
       let a = start .args in
       let rd = parse (a .depth) (a .query .now) in
-      let m = first .expression .result .pen .operators in
       record {
         made = λ o e h.
-            for-made rd o (first .expression .ensures) e h (a .v) (omega (arith, start .good .1 .1 .1 .1 .0))
-            (flags .free .result)
-            (omega (arith, flags .free .ok)) (flags .free .ensures) (head .for-head .ensures)
-            (rw (others .without .ensures) at (lift .lift .ensures))
-            (set-eight (lift .lift .result .tables) (bound .hold .result) (a .v) (m + 2) (bound .hold .ensures)
-            (omega (arith, bound .hold .ok)))
-            (rw (bound .hold .ensures) at (body .expression2 .ensures)) (tail .for-tail .ensures);
+            for-made rd o (first .expression .ensures) e h (a .v) (head .for-head .ensures)
+            (carried .into-body .ensures)
+            (body .expression2 .ensures) (tail .for-tail .ensures);
       }
