@@ -5,7 +5,7 @@
 --     flagged-below                the flagged variables below n are below n
 --     lifts-none, lifts-one        no variable; one
 --     lifts-more                   one variable more
---     lifts-room, lifts-all-room   room for one variable more; the room after all of them
+--     lifts-room                   room for one variable more
 --     hold-holds                   the row of eight with another table
 --     flagged-free, flagged-others the flags of free variables give the variables that are to be lifted
 --     lifts-rule                   what `lift` leaves, over the tables that the row of eight holds
@@ -184,19 +184,6 @@ lifts-room ts m cs fs v x y p a g l h =
       length-lifts (tablesOf ts) m cs (p .operators) (filter (λ u. getD fs u false) (below v)),
       length-filter (λ u. getD fs u false) (below v),
       length-below v,
-    ))
-
-pub lifts-all-room :
-    {ts : List ℕ} {m : ℕ} {cs : List ℕ} (fs : List Bool) {x y : List ℕ} {p : Pen} {a : Lifted} →
-    Lifts ts m cs (flagged fs 8) x p y a → (j k : ℕ) → PenRoom p k → 16 + j ≤ k → PenRoom (a .pen) j
-unfolding flagged
-lifts-all-room {ts} {m} {cs} fs {p = p} g j k h l =
-    wrote-room (g .wrote) j k h
-    (omega (
-      arith,
-      length-lifts (tablesOf ts) m cs (p .operators) (filter (λ u. getD fs u false) (below 8)),
-      length-filter (λ u. getD fs u false) (below 8),
-      length-below 8,
     ))
 
 -- The variables to be lifted

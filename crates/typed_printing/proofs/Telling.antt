@@ -20,8 +20,8 @@ use Rattle.laws.specs.Attempt.{Reading, refuses, reads}
 use Rattle.laws.specs.Rows.{padded}
 use Rattle.meaning.specs.Query.{Read, queryRead}
 use Rattle.meaning.specs.Calls.{Answer, gives, refused, Outcome, refusal}
-use Rattle.lines.specs.declared.Told.{Told}
-use Rattle.lines.specs.declared.Told.the-variants.{Gave, Refused}
+use Rattle.verdicts.specs.declared.Told.{Told}
+use Rattle.verdicts.specs.declared.Told.the-variants.{Gave, Refused}
 use Rattle.lines.specs.Text as Text
 use Rattle.lines.specs.Text.{refusedLine, sameNo, Nowhere}
 use Rattle.lines.specs.Printed.{toldBy}

@@ -1,6 +1,6 @@
 // What program `charttext` prints for the bytes of its two files: all of it but the reading and the writing of files.
-use lines::Told;
 use reader::Typed;
+use verdicts::Told;
 ghost use Prim.Native.Nat.{_≤_};
 ghost use mathlib.Core.Path.{_≡_};
 ghost use lib.ListN.{length, take};
