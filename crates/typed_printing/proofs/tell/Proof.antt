@@ -1,7 +1,8 @@
 -- `tell` meets its contract: the reader's refusal, or what is told of the records.
 use native.Mathlib.Omega.{arith}
 use mathlib.Core.Path.{refl}
-use Rattle.lines.specs.Placed.{GaveStands, roomFor}
+use Rattle.lines.specs.Placed.{roomFor}
+use Rattle.verdicts.specs.Compared.{GaveStands}
 use Rattle.typed_printing.proofs.Telling.{bytes-within, tells-refused, tells-records}
 use borrow.Author.Needs.{needs}
 use Rattle.typed_printing.proofs.tell.Statement.{statement}
