@@ -1,4 +1,5 @@
-// How a Single of a typed query begins, up to the first part inside it, with its record added to an array of 1,024 bytes.
+// How a Single of a typed query begins, up to the first part inside it, with its record added to an array of 1,024
+// bytes.
 use numerals::Fixed;
 use numerals::Numeral;
 use numerals::byte;

@@ -18,7 +18,8 @@ use Rattle.codes.specs.declared.Axis.the-variants.{Child, Descendant, De
 use Rattle.codes.specs.declared.Axis.the-variants.{Ancestor, Following, Preceding}
 use Rattle.codes.specs.declared.Test.{Test}
 use Rattle.codes.specs.declared.Test.the-variants.{AnyNode, Element, Text, Named}
-use Rattle.codes.specs.Codes.{functionOf, functionNumber, axisOf, axisNumber, testOf, testNumber, testName, NoneOf}
+use Rattle.codes.specs.Codes.{functionOf, functionNumber, axisOf, axisNumber, testOf, testNumber, testName}
+use Rattle.codes.specs.Codes.{NoneOf}
 
 pub axis-none : (n : ℕ) → NoneOf n (0 ∷ 8 ∷ 7 ∷ 6 ∷ 5 ∷ 4 ∷ 3 ∷ 2 ∷ 1 ∷ []) → axisOf n ≡ fails
 unfolding axisOf

@@ -1,6 +1,6 @@
-// The words of a typed query, read from a lent text from an offset on, past the spaces; and the answers of the crates that
-// read axes, tests, steps and the word behind an operand. Each answers what the definition of the reader does on what is
-// left of the text.
+// The words of a typed query, read from a lent text from an offset on, past the spaces; and the answers of the
+// crates that read axes, tests, steps and the word behind an operand. Each answers what the definition of the reader
+// does on what is left of the text.
 use codes::Axis;
 use codes::Test;
 use numerals::Fixed;
