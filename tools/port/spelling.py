@@ -1,7 +1,7 @@
 #!/usr/bin/env python3
 """Gives the repository's own words of definitions and lemmas today's spelling: snake case, in place of camel case and dashes.
 
-usage: python3 tools/port/spelling.py [ROOT]      once, after port.py
+usage: python3 tools/port/spelling.py [ROOT] --write      once, after port.py; with --again a second time
 
 Turns every name that a file of specs/ or a file of lemmas in proofs/ declares and that begins with a small letter, wherever it
 stands: in specs/, in proofs/, in clauses of src/ and in must-fail/*.edit. Types and modules keep their names, and so do the
@@ -12,7 +12,7 @@ import os, re, sys
 
 ROOT = sys.argv[1] if len(sys.argv) > 1 else "."
 WORD = re.compile(r"[^\s(){}\[\],;.:λ→\"`∷◌]+")
-DECL = re.compile(r"^\s*(?:(?:abbrev|unfoldable|pub|mutual)\s+)*((?:[^\s(){}.,;:]+\s+)*?[^\s(){}.,;:]+)\s+:\s")
+DECL = re.compile(r"^\s*(?:(?:abbrev|unfoldable|pub|mutual)\s+)*((?:[^\s(){}.,;:]+\s+)*?[^\s(){}.,;:]+)\s+:(?:\s|$)")
 HEAD = re.compile(r"^\s*(?:(?:abbrev|unfoldable|pub)\s+)*(?:data|record|module|use|open|unfolding|where|ruleset)\b")
 
 
@@ -94,11 +94,11 @@ LEMMAS = {
     "read_next": ("parsing/proofs/", "read_next_lem"),
     "record_of": ("theorems/proofs/PlanBytes", "plan_record"),
 }
-for p in texts:
+for p in texts if "--again" not in sys.argv else ():
     for old, (part, new) in LEMMAS.items():
         if part in p:
             texts[p] = re.sub(r"(?<![.\w-])%s(?![\w-])" % old, new, texts[p])
-for p in texts:
+for p in texts if "--again" not in sys.argv else ():
     if p.endswith("query_walks/proofs/Parsing.antt"):
         texts[p] = re.sub(r"(?<![.\w-])record_of(?![\w-])", "the_record", texts[p])
 was = {p: open(p, encoding="utf-8").read() for p in texts}

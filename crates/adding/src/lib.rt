@@ -1,4 +1,6 @@
 // A plan's operators added one by one, as the rules of the translation add them.
+#![tactic(auto)]
+
 ghost use Rattle.std.specs.Prelude.{◌≡◌, [], ◌∷◌, ◌+◌, ◌^◌, ◌<◌};
 ghost use Rattle.meaning.specs.Written.{operator_bytes};
 ghost use Rattle.pen.specs.Penned.{Pens};
@@ -8,7 +10,7 @@ use codes::{Axis, Function, Test};
 use writing::{Columns, Keys};
 
 // Where writing stands: the number of the next operator, and the position of its first byte.
-#[derive(Drop)]
+#[derive(Clone, Copy)]
 pub struct Pen {
     pub operators: usize,
     pub at: usize,
@@ -16,7 +18,7 @@ pub struct Pen {
 
 // What the translation of an expression leaves: the number of its result's table, where writing stands, and the offset
 // after the expression.
-#[derive(Drop)]
+#[derive(Clone, Copy)]
 pub struct Output {
     pub table: usize,
     pub pen: Pen,
@@ -24,7 +26,7 @@ pub struct Output {
 }
 
 // An operator of a plan.
-#[derive(Drop)]
+#[derive(Clone, Copy)]
 pub enum Operator {
     First,
     Attach(usize, i64),

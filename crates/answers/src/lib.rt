@@ -1,5 +1,7 @@
 // What each call answered, as it is told: how many it gave, or its refusal. Between the two engines the runner's items
 // are kept, and the evaluator is asked where that can change what is printed.
+#![tactic(auto)]
+
 ghost use Rattle.std.specs.Prelude.{◌≡◌, ◌≤◌, length};
 ghost use Rattle.laws.specs.Rows.{rows_at, laid};
 ghost use Rattle.meaning.specs.Operators.{column};

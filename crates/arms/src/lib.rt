@@ -1,4 +1,6 @@
 // Each operator on the tables that the directory names.
+#![tactic(auto)]
+
 ghost use Rattle.std.specs.Prelude.{◌≡◌, true, ◌&&◌, ◌||◌, ◌++◌, ◌+◌, ◌*◌, ◌≤◌, ◌<◌, eqb, ltb, length};
 ghost use Rattle.laws.specs.Attempt.{gives, provided, each};
 ghost use Rattle.meaning.specs.Catalogue.{catalogue_of};

@@ -1,5 +1,7 @@
 // Steps over mark sets: a step takes the marks of its contexts and leaves the marks of the nodes that it reaches, in
 // one pass over the rows for each axis.
+#![tactic(auto)]
+
 ghost use Rattle.step_parts.specs.Steps.{Ready, Step};
 
 use codes::{Axis, Test};

@@ -1,5 +1,7 @@
 // How a Single of a typed query begins, up to the first part inside it, with its record added to an array of 1,024
 // bytes.
+#![tactic(auto)]
+
 ghost use Rattle.std.specs.Prelude.{◌≡◌, ℕ, ◌≤◌, ◌<◌, length, drop};
 ghost use Rattle.parsing.specs.Reader;
 ghost use Rattle.spelling.specs.Answers;
@@ -15,7 +17,7 @@ use spelling::{Before, enter, fixed};
 // How a Single begins: with a variable that is bound, the part that it is bound to coming at an offset, with so many
 // record bytes, behind a word or a symbol; with `if`, its condition coming; with a comparison, of which the f of
 // `false` is taken or not; or the place where no text of the grammar goes on.
-#[derive(Drop)]
+#[derive(Clone, Copy)]
 pub enum Beginning {
     Binding(usize, usize, Before),
     Choice(usize, usize),
@@ -24,7 +26,7 @@ pub enum Beginning {
 }
 
 // What binds a variable: `for` or `let`.
-#[derive(Drop)]
+#[derive(Clone, Copy)]
 enum Binder {
     For,
     Let,

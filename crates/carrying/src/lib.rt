@@ -1,4 +1,6 @@
 // The variables that are carried into an operand that has a loop of its own: those free in it are lifted.
+#![tactic(auto)]
+
 ghost use Rattle.query_walks.specs.Parse.{parse};
 ghost use Rattle.adding.specs.Ruled.{PenRoom};
 ghost use Rattle.carrying.specs.Carried.{IntoBranch, IntoBody};

@@ -1,4 +1,6 @@
 // Stored cases: reading them from a file, and printing what a call answers and leaves.
+#![tactic(auto)]
+
 ghost use Rattle.std.specs.Prelude.{◌≤◌, ◌<◌, ◌≡◌, length};
 
 use libc::STDOUT_FILENO;

@@ -1,4 +1,6 @@
 // The catalogue's check: every row, then the sizes.
+#![tactic(auto)]
+
 ghost use Rattle.std.specs.Prelude.{◌≡◌, ◌+◌, ◌*◌, ◌-◌, ◌≤◌, ◌<◌, length};
 ghost use Rattle.meaning.specs.Calls;
 ghost use Rattle.meaning.specs.Catalogue;
@@ -10,7 +12,7 @@ use codes::limits::ROWS;
 use sound_rows::ReadRow;
 
 // The number of rows, or the offset of the first row that is unsound.
-#[derive(Drop)]
+#[derive(Clone, Copy)]
 pub enum Checked {
     Rows(usize),
     Unsound(usize),

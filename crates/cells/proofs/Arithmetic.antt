@@ -75,7 +75,9 @@ module _ {x y : ℤ} (h : SFits w32 x) (k : SFits w32 y) where
   quotient_fits = record { sfits = omega (arith, mag_quotient x y, nat_abs-le x h.sfits) }
 
 pub wide_back : {z : ℤ} → SFits w32 z → to_z w64 (of_z w64 (to_z w32 (of_z w32 z))) ≡ z
-wide_back h = ap (λ (z : ℤ). to_z w64 (of_z w64 z)) (to_z-of_z h) ∙ to_z-of_z (sfits_widen tt h)
+wide_back h =
+    ap (λ (z : ℤ). to_z w64 (of_z w64 z)) (to_z-of_z h)
+    ∙ to_z-of_z {w = w64} (sfits_widen {w = w32} {w' = w64} tt h)
 
 pub wide_fits : {z : ℤ} → SFits w32 z → SFits w64 (to_z w32 (of_z w32 z))
 wide_fits h = rw (to_z-of_z h) (sfits_widen tt h)

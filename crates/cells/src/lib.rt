@@ -1,11 +1,12 @@
 // Items, the cells that hold them, the numbers that bytes hold, and every signed operation.
+#![tactic(auto)]
 
 // The preorder rank of a node: the number of its row.
-#[derive(Drop)]
+#[derive(Clone, Copy)]
 pub struct Rank(pub usize);
 
 // An item is an integer, a boolean or a node.
-#[derive(Drop)]
+#[derive(Clone, Copy)]
 pub enum Item {
     Integer(i32),
     Truth(bool),
@@ -13,14 +14,14 @@ pub enum Item {
 }
 
 // What a cell holds. Every cell that an engine writes holds an item.
-#[derive(Drop)]
+#[derive(Clone, Copy)]
 pub enum Held {
     Item(Item),
     Stray,
 }
 
 // What arithmetic gives: an integer, or none where the divisor is zero or the result is outside the range.
-#[derive(Drop)]
+#[derive(Clone, Copy)]
 pub enum Number {
     Is(i32),
     Refused,

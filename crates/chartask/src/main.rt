@@ -1,5 +1,7 @@
 // Program `chartask`: what both engines make of the query in `query.bin` over the catalogue in `doc.bin`, and whether
 // they agree.
+#![tactic(auto)]
+
 ghost use Rattle.std.specs.Prelude.{◌≤◌, length};
 
 use libc::STDOUT_FILENO;

@@ -1,5 +1,7 @@
 // Program `charttext`: what both engines make of the typed query in `query.xq` over the catalogue in `doc.bin`, and
 // whether they agree.
+#![tactic(auto)]
+
 ghost use Rattle.std.specs.Prelude.{◌≤◌, length};
 
 use libc::{STDERR_FILENO, STDOUT_FILENO};

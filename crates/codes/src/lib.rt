@@ -1,9 +1,11 @@
 // The functions, axes and tests of document 01, and their numbers: read and written here, and nowhere else.
+#![tactic(auto)]
+
 pub mod limits;
 pub mod marks;
 
 // The functions of QO and RF.
-#[derive(Drop)]
+#[derive(Clone, Copy)]
 pub enum Function {
     Add,
     Subtract,
@@ -14,7 +16,7 @@ pub enum Function {
 }
 
 // The axes of a step.
-#[derive(Drop)]
+#[derive(Clone, Copy)]
 pub enum Axis {
     Child,
     Descendant,
@@ -27,7 +29,7 @@ pub enum Axis {
 }
 
 // The tests of a step.
-#[derive(Drop)]
+#[derive(Clone, Copy)]
 pub enum Test {
     AnyNode,
     Element,
@@ -41,19 +43,19 @@ ghost use Rattle.codes.specs.Codes.{function_of, axis_of, test_of, function_fiel
 ghost use Rattle.codes.specs.Codes.{function_number, axis_number, test_number, test_name};
 
 // The function, the axis or the test that a field names, or that its number is out of range.
-#[derive(Drop)]
+#[derive(Clone, Copy)]
 pub enum FunctionField {
     Is(Function),
     Unsound,
 }
 
-#[derive(Drop)]
+#[derive(Clone, Copy)]
 pub enum AxisField {
     Is(Axis),
     Unsound,
 }
 
-#[derive(Drop)]
+#[derive(Clone, Copy)]
 pub enum TestField {
     Is(Test),
     Unsound,

@@ -1,4 +1,6 @@
 // The directory of a run: where each table stands, three numbers a table.
+#![tactic(auto)]
+
 ghost use Rattle.std.specs.Prelude.{◌≡◌, ◌+◌, ◌*◌, ◌≤◌, length};
 ghost use Rattle.directory.specs.Directory.{stand_at, entered};
 ghost use Rattle.directory.specs.Sound.{made_width, Served};

@@ -1,4 +1,6 @@
 // The rows of a catalogue: the fields of a row, roots and fragments.
+#![tactic(auto)]
+
 ghost use Rattle.std.specs.Prelude.{◌≡◌, ℕ, ◌+◌, ◌*◌, ◌-◌, ◌≤◌, ◌<◌, length};
 ghost use Rattle.meaning.specs.Catalogue;
 ghost use Rattle.meaning.specs.World;
@@ -8,7 +10,7 @@ ghost use Rattle.doc_rows.specs.Answers;
 use cells::Rank;
 
 // A root, where there is one.
-#[derive(Drop)]
+#[derive(Clone, Copy)]
 pub enum FoundRoot {
     At(Rank),
     Nothing,

@@ -1,4 +1,6 @@
 // The step-by-step evaluator: the checks, the work of crates/working, and the answer.
+#![tactic(auto)]
+
 ghost use Rattle.std.specs.Prelude.{◌≡◌, length};
 ghost use Rattle.meaning.specs.Calls.{evaluate_call};
 ghost use Rattle.evaluator.specs.Answers.{answered, refusing, unsounding, concluding, standing};
@@ -9,7 +11,7 @@ use working_parts::Scope;
 
 // The answer: the number of items and their count; or a refusal with its place: 1 to 3 of the query, 4 of the
 // catalogue, 6 and 7 of the work.
-#[derive(Drop)]
+#[derive(Clone, Copy)]
 pub enum Evaluated {
     Items { items: usize, count: usize },
     Unsound(usize),

@@ -1,4 +1,6 @@
 // The groups of a table, one after another: one loop for RC, RE and RX.
+#![tactic(auto)]
+
 ghost use Rattle.std.specs.Prelude.{◌≡◌, ◌*◌, ◌≤◌, ◌<◌, length};
 ghost use Rattle.items.specs.Answers;
 ghost use Rattle.meaning.specs.Catalogue.{Catalogue, catalogue_of};
@@ -20,7 +22,7 @@ use stepping::step_group;
 use tables::{Laid, Stand};
 
 // What an operator makes of each group: how many rows it has, by a column; the truth of its items; the nodes of a step.
-#[derive(Drop)]
+#[derive(Clone, Copy)]
 pub enum Gather {
     Count(usize),
     Truth,

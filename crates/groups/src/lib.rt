@@ -1,5 +1,7 @@
 // The operators that go by groups, RC, RE and RX: a group is the rows that hold one cell. Groups come by first
 // appearance.
+#![tactic(auto)]
+
 ghost use Rattle.std.specs.Prelude.{◌≡◌, ◌*◌, ◌≤◌, ◌<◌, length};
 ghost use Rattle.laws.specs.Attempt.{gives};
 ghost use Rattle.meaning.specs.Catalogue.{catalogue_of};

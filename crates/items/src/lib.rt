@@ -1,5 +1,7 @@
 // Arithmetic, values, roots and truth of cells (document 01, 'Query records'). The plan's operators and the evaluator
 // both stand on these.
+#![tactic(auto)]
+
 ghost use Rattle.std.specs.Prelude.{◌≡◌, ◌*◌, ◌≤◌, ◌<◌, length};
 ghost use Rattle.meaning.specs.Catalogue.{catalogue_of};
 ghost use Rattle.meaning.specs.World;
@@ -9,14 +11,14 @@ use cells::{Held, Item, Number, Rank};
 use codes::Function;
 
 // A cell, or that there is none.
-#[derive(Drop)]
+#[derive(Clone, Copy)]
 pub enum Tried {
     Gives(i64),
     Fails,
 }
 
 // A truth value, or that there is none.
-#[derive(Drop)]
+#[derive(Clone, Copy)]
 pub enum Judged {
     Is(bool),
     Fails,

@@ -1,5 +1,7 @@
 // The operator RJ: for each row of a table, each row of the other that holds an equal cell. Where the other's column
 // climbs, a row looks only at the part of it that can join.
+#![tactic(auto)]
+
 pub mod pairs;
 
 ghost use Rattle.std.specs.Prelude.{◌++◌, map, ◌+◌, ◌*◌, ◌≤◌, ◌<◌, length};

@@ -1,4 +1,6 @@
 // The truth of a group's items (RE), by rule QI: its first item decides, and whether there are more.
+#![tactic(auto)]
+
 ghost use Rattle.std.specs.Prelude.{◌≡◌, cond, [], ◌∷◌, ◌≤◌, ◌<◌, length, get_or, drop};
 ghost use Rattle.cells.specs.Cell;
 ghost use Rattle.items.specs.Answers;

@@ -19,6 +19,7 @@ use Rattle.laws.proofs.Lists.{all_passed}
 
 module _ {A : Type 0} where
   pub all_in : (P : A → Type 0) (xs : List A) (x : A) → All P xs → In x xs → P x
+  all_in P [] x h x4 = elim x4 [ ]
   all_in P (y ∷ ys) x h (inl e) = subst P (sym e) h.0
   all_in P (y ∷ ys) x h (inr i) = all_in P ys x h.1 i
 
@@ -53,6 +54,7 @@ module _ {A : Type 0} where
 
     pub in_filter : (xs : List A) (x : A) → In x xs → p x ≡ true → In x (filter p xs)
     unfolding filter
+    in_filter [] x x4 e = elim x4 [ ]
     in_filter (y ∷ ys) x (inl d) e = rw (sym (ap p d) ∙ e) (inl d)
     in_filter (y ∷ ys) x (inr i) e =
         by_cases (p y)
@@ -176,6 +178,7 @@ module _ {A : Type 0} where
   map_id (x ∷ xs) = ap (λ r. x ∷ r) (map_id xs)
 
 pub in_map : {A B : Type 0} (f : A → B) (xs : List A) (x : A) → In x xs → In (f x) (map f xs)
+in_map f [] x x3 = elim x3 [ ]
 in_map f (y ∷ ys) x (inl e) = inl (ap f e)
 in_map f (y ∷ ys) x (inr i) = inr (in_map f ys x i)
 

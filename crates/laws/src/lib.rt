@@ -1,2 +1,4 @@
 // No code: this crate holds definitions on lists and characters, and their laws.
+#![tactic(auto)]
+
 pub fn nothing() {}

@@ -1,4 +1,6 @@
 // One operator of a plan: its table laid behind those that stand, and entered.
+#![tactic(auto)]
+
 ghost use Rattle.std.specs.Prelude.{◌≤◌, ◌<◌, length};
 ghost use Rattle.meaning.specs.Catalogue.{catalogue_of};
 ghost use Rattle.meaning.specs.Operators.{make};
@@ -15,7 +17,7 @@ use plan_records::Operator;
 use tables::{Laid, Stand};
 
 // What one operator comes to: the end of the tables with its own, that it passes the room, or that it fails.
-#[derive(Drop)]
+#[derive(Clone, Copy)]
 pub enum Turned {
     On(Top),
     Full,

@@ -1,5 +1,7 @@
 // The rules of the translation for records without operands: the operators that stand for a literal, a root and the
 // empty sequence, once in each iteration.
+#![tactic(auto)]
+
 ghost use Rattle.meaning.specs.Translation.{rule_l, rule_r, rule_e};
 ghost use Rattle.adding.specs.Ruled.{PenRoom, Ruled};
 

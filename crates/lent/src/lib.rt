@@ -1,4 +1,6 @@
 // The cells that a call is lent: how many of them count, and how they are copied and cleared.
+#![tactic(auto)]
+
 ghost use Rattle.std.specs.Prelude.{◌≡◌, ◌+◌, ◌≤◌, pos, length, take};
 ghost use Rattle.laws.specs.Rows.{row, laid, padded};
 ghost use Rattle.meaning.specs.Calls.{room};

@@ -1,4 +1,6 @@
 // The levels of the grammar of typed queries: those that the operands of a record are written at, and its own.
+#![tactic(auto)]
+
 ghost use Rattle.std.specs.Prelude.{◌≡◌};
 ghost use Rattle.grammar.specs.Written;
 ghost use Rattle.levels.specs.Levels.{level_of, rank_of, own_of, first_of, second_of};
@@ -7,7 +9,7 @@ use codes::Function;
 use query_records::Record;
 
 // The loosest first.
-#[derive(Drop)]
+#[derive(Clone, Copy)]
 pub enum Level {
     Expr,
     Single,

@@ -1,5 +1,7 @@
 // The table of each variable, and the variables that a rule lifts: those that are free in an operand, joined to its
 // iterations.
+#![tactic(auto)]
+
 ghost use Rattle.std.specs.Prelude.{◌≡◌, false, cond, [], ◌∷◌, ◌<◌, get_or, set};
 ghost use Rattle.adding.specs.Ruled.{PenRoom};
 ghost use Rattle.lifting.specs.Lifts.{Lifts, flagged};
@@ -8,7 +10,7 @@ use adding::{Operator, Pen, add};
 use writing::Columns;
 
 // What lifting leaves: the variables' tables, and where writing stands.
-#[derive(Drop)]
+#[derive(Clone, Copy)]
 pub struct Lifted {
     pub tables: [usize; 8],
     pub pen: Pen,

@@ -1,4 +1,6 @@
 // The text that the printing program prints, from what the translator and the two engines told.
+#![tactic(auto)]
+
 mod items;
 
 ghost use Rattle.std.specs.Prelude.{◌≡◌, ◌+◌, ◌*◌, ◌^◌, ◌≤◌, ◌<◌, length};

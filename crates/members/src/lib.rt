@@ -1,4 +1,6 @@
 // Groups by first appearance: where one opens, and the part of the table that has all its rows.
+#![tactic(auto)]
+
 ghost use Rattle.std.specs.Prelude.{◌≡◌, true, ◌+◌, ◌*◌, ◌-◌, ◌≤◌, ◌<◌, length};
 ghost use Rattle.cells.specs.Cell;
 ghost use Rattle.meaning.specs.Operators.{column, group_of};

@@ -1,4 +1,6 @@
 // The word behind an operand of a typed query: an operator, a comma, or what ends a part.
+#![tactic(auto)]
+
 ghost use Rattle.std.specs.Prelude.{◌≡◌, ◌≤◌, ◌<◌, length, drop};
 ghost use Rattle.parsing.specs.Reader;
 ghost use Rattle.spelling.specs.Answers;

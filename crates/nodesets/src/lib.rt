@@ -1,4 +1,6 @@
 // Mark sets: one flag for each rank. Cells to mark sets, and back to cells by rising rank.
+#![tactic(auto)]
+
 ghost use Rattle.std.specs.Prelude.{◌≤◌, ◌≡◌, [], map, length};
 ghost use Rattle.cells.specs.Cell.{node_cell};
 ghost use Rattle.cells.specs.declared.Held.TheVariants as Holding;
@@ -10,18 +12,18 @@ ghost use Rattle.nodesets.specs.Nodes.{ranks, CellRoom, MarkSet, found, FromOne,
 use cells::{Held, Item, Rank};
 
 // The cell of an iteration, as a table's first column has it. It is never taken for a rank.
-#[derive(Drop)]
+#[derive(Clone, Copy)]
 pub struct Iteration(pub i64);
 
 // The rank of a cell's node.
-#[derive(Drop)]
+#[derive(Clone, Copy)]
 pub enum Ranked {
     At(Rank),
     NotANode,
 }
 
 // Whether every cell was a node's.
-#[derive(Drop)]
+#[derive(Clone, Copy)]
 pub enum Marked {
     AllNodes,
     NotANode,

@@ -1,4 +1,6 @@
 // The operator RN: rows in rising order by p and the keys, ties as they stood, numbered from 1 within equal p.
+#![tactic(auto)]
+
 mod laying;
 
 ghost use Rattle.std.specs.Prelude.{◌+◌, ◌≤◌, length};

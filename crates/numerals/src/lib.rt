@@ -1,4 +1,6 @@
 // Bytes, spaces, words and numbers read from a lent text, from an offset on.
+#![tactic(auto)]
+
 ghost use Rattle.std.specs.Prelude.{◌≡◌, ◌≤◌, length, drop};
 ghost use Rattle.laws.specs.Characters;
 ghost use Rattle.numerals.specs.Numerals;
@@ -6,14 +8,14 @@ ghost use Rattle.numerals.specs.Texts;
 ghost use Rattle.numerals.specs.Answers;
 
 // A number's value and where it ends; or the place where no text of the grammar goes on.
-#[derive(Drop)]
+#[derive(Clone, Copy)]
 pub enum Numeral {
     Is(usize, usize),
     Stuck(usize),
 }
 
 // Where a fixed word ends; or the place where it does not go on.
-#[derive(Drop)]
+#[derive(Clone, Copy)]
 pub enum Fixed {
     Past(usize),
     Stuck(usize),

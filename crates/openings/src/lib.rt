@@ -1,5 +1,7 @@
 // How an operand begins: read as far as no part inside it has to be read, from a lent text, with its record added to an
 // array of 1,024 bytes.
+#![tactic(auto)]
+
 ghost use Rattle.std.specs.Prelude.{◌≡◌, List, ℕ, ◌≤◌, length, drop};
 ghost use Rattle.parsing.specs.Reader;
 ghost use Rattle.spelling.specs.Answers;
@@ -13,7 +15,7 @@ use spelling::{Before, fixed};
 
 // How an operand begins: it is read whole; or a list comes, at an offset and with so many parentheses left inside; or
 // the operand of a call, at an offset and with so many record bytes then.
-#[derive(Drop)]
+#[derive(Clone, Copy)]
 pub enum Opening {
     Whole(OperandRead),
     List(usize, usize),
@@ -33,7 +35,7 @@ pub fn opened(text: &[u8], at: usize, rest: &[u8]) -> Fixed
 }
 
 // What is called: `count` or `data`.
-#[derive(Drop)]
+#[derive(Clone, Copy)]
 enum Callee {
     Count,
     Data,

@@ -1,5 +1,7 @@
 // Operands of a typed query that have none inside them: each is read from a lent text, and its record is added to an
 // array of 1,024 bytes.
+#![tactic(auto)]
+
 ghost use Rattle.std.specs.Prelude.{◌≡◌, ◌≤◌, length, drop};
 ghost use Rattle.grammar.specs.Records.{record_ql};
 ghost use Rattle.parsing.specs.Reader;
@@ -14,14 +16,14 @@ use spelling::{Before, called, fixed};
 
 // An operand: what its last word is, where it ends, and how many record bytes there are then; or the place where no
 // text of the grammar goes on.
-#[derive(Drop)]
+#[derive(Clone, Copy)]
 pub enum OperandRead {
     Past(Before, usize, usize),
     Stuck(usize),
 }
 
 // A part: the word behind it, where that ends, and how many record bytes there are then.
-#[derive(Drop)]
+#[derive(Clone, Copy)]
 pub enum PartRead {
     Past(Next, usize, usize),
     Stuck(usize),

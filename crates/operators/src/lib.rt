@@ -1,4 +1,6 @@
 // What each operator of a plan does with the tables that stand before it.
+#![tactic(auto)]
+
 ghost use Rattle.std.specs.Prelude.{◌≤◌, length};
 ghost use Rattle.meaning.specs.Catalogue.{catalogue_of};
 ghost use Rattle.meaning.specs.Operators.{make};
@@ -14,7 +16,7 @@ use rowwise::Task;
 use tables::Laid;
 
 // The end of the tables: how many stand, and the cells that they fill.
-#[derive(Drop)]
+#[derive(Clone, Copy)]
 pub struct Top {
     pub tables: usize,
     pub cells: usize,

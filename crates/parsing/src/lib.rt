@@ -1,8 +1,9 @@
 // No code: this crate holds the reader of typed queries as a definition, and the words that it shares with code.
+#![tactic(auto)]
 
 // How a part of a text ends: with the text, with a list's parenthesis, with a call's parenthesis, with `return`, with
 // `else`.
-#[derive(Drop)]
+#[derive(Clone, Copy)]
 pub enum Ends {
     WithText,
     WithList,
@@ -12,7 +13,7 @@ pub enum Ends {
 }
 
 // The word that comes after an operand, or the end of the text.
-#[derive(Drop)]
+#[derive(Clone, Copy)]
 pub enum Next {
     Slash,
     Star,

@@ -1,4 +1,6 @@
 // What stands behind an operand of a typed query: steps, and the words that go on with another operand.
+#![tactic(auto)]
+
 ghost use Rattle.std.specs.Prelude.{◌≡◌, List, ℕ, ◌≤◌, length, drop};
 ghost use Rattle.parsing.specs.Reader;
 ghost use Rattle.spelling.specs.Answers;

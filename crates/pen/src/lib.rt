@@ -1,6 +1,8 @@
 // Writing over lent bytes: single bytes, numbers as bytes, words, numbers in decimal. Each function but `clear` takes
 // the position to write at and gives the position after. It runs on past the lent end, and what does not fit is not
 // written: `put` alone asks how many bytes there are.
+#![tactic(auto)]
+
 ghost use Rattle.std.specs.Prelude.{◌≡◌, [], ◌∷◌, ◌+◌, ◌^◌, ◌<◌, nat_abs, length, take};
 ghost use Rattle.cells.specs.Bytes.{bytes_of, bits8};
 ghost use Rattle.laws.specs.Rows.{padded};

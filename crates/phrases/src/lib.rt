@@ -1,5 +1,7 @@
 // The texts of a query's records by themselves, written over lent bytes: what stands before, between and after the
 // operands of a record.
+#![tactic(auto)]
+
 ghost use Rattle.std.specs.Prelude.{◌≡◌, ◌+◌, ◌^◌, ◌<◌};
 ghost use Rattle.cells.specs.Cell.{held, cell_of};
 ghost use Rattle.cells.specs.Small.{Small};

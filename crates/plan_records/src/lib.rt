@@ -1,4 +1,6 @@
 // Plan records: one operator, and its reader.
+#![tactic(auto)]
+
 mod records;
 
 ghost use Rattle.meaning.specs.Plan;
@@ -9,7 +11,7 @@ use codes::{Axis, Function, Test, marks};
 
 // One operator: tables t and u by number, columns c and d from 0. The n columns of Project and the n keys of Number
 // stand in the plan's bytes from an offset on; Number's p is 255 for none.
-#[derive(Drop)]
+#[derive(Clone, Copy)]
 pub enum Operator {
     One,
     Attach {
@@ -78,14 +80,14 @@ pub enum Operator {
 }
 
 // An operator and the offset after its record.
-#[derive(Drop)]
+#[derive(Clone, Copy)]
 pub struct Decoded {
     pub operator: Operator,
     pub next: usize,
 }
 
 // What stands at an offset: an operator whose own fields are sound, or a bad mark, field or cut record.
-#[derive(Drop)]
+#[derive(Clone, Copy)]
 pub enum Reading {
     Sound(Decoded),
     Unsound,

@@ -1,4 +1,6 @@
 // The width of the table that an operator makes, of the widths of the tables that it names.
+#![tactic(auto)]
+
 ghost use Rattle.std.specs.Prelude.{◌≡◌, ◌+◌, ◌≤◌, ◌<◌, length, take};
 ghost use Rattle.meaning.specs.Plan;
 ghost use Rattle.plan_records.specs.Decoded.{operator_of, ColumnsStand};
@@ -8,14 +10,14 @@ use cells::byte;
 use plan_records::Operator;
 
 // The tables that an operator names: none, or t and u; u is t where it names only one.
-#[derive(Drop)]
+#[derive(Clone, Copy)]
 pub enum TableOperands {
     None,
     Of(usize, usize),
 }
 
 // The width of an operator's table, or that the operator does not suit the tables before it.
-#[derive(Drop)]
+#[derive(Clone, Copy)]
 pub enum Width {
     Is(usize),
     Unsound,

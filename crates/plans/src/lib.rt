@@ -1,4 +1,6 @@
 // The plan check: the operators of a plan from left to right, and the widths of their tables.
+#![tactic(auto)]
+
 ghost use Rattle.std.specs.Prelude.{◌≡◌, length};
 ghost use Rattle.plans.specs.Walk.{checked, plan_count};
 
@@ -7,7 +9,7 @@ use plan_records::{Reading, read};
 use plan_widths::{Width, width_of};
 
 // The answer of the plan check, with the place of a refusal.
-#[derive(Drop)]
+#[derive(Clone, Copy)]
 pub enum Checked {
     Operators(usize),
     Unsound(usize),

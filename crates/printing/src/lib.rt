@@ -1,4 +1,6 @@
 // What program `chartask` prints for the bytes of its two files: all of it but the reading and the writing.
+#![tactic(auto)]
+
 ghost use Rattle.std.specs.Prelude.{◌≤◌, ◌≡◌, length};
 ghost use Rattle.printing.specs.Engines.{TextEnds, TellsText};
 

@@ -1,4 +1,6 @@
 // The query check: the records of a query from left to right, their number, their depth and their variables.
+#![tactic(auto)]
+
 ghost use Rattle.std.specs.Prelude.{◌≡◌, false, get_or};
 ghost use Rattle.laws.specs.Attempt.{reads, unless};
 ghost use Rattle.meaning.specs.Calls.{query_call};
@@ -10,7 +12,7 @@ use query_records::flags::{flag, with};
 use query_records::{Operands, Reading, following, read};
 
 // The answer of the query check, with the place of a refusal.
-#[derive(Drop)]
+#[derive(Clone, Copy)]
 pub enum Checked {
     Records(usize),
     Unsound(usize),
@@ -19,7 +21,7 @@ pub enum Checked {
 }
 
 // How far the query check came: past an operand, at an offset, after so many records; or where it stopped.
-#[derive(Drop)]
+#[derive(Clone, Copy)]
 enum Checking {
     Passed(usize, usize),
     Unsound(usize),

@@ -1,4 +1,6 @@
 // Query records: reading one, and what follows it.
+#![tactic(auto)]
+
 pub mod flags;
 
 ghost use Rattle.std.specs.Prelude.{◌≡◌};
@@ -14,7 +16,7 @@ use codes::{
 };
 
 // One record by itself, without its operands.
-#[derive(Drop)]
+#[derive(Clone, Copy)]
 pub enum Record {
     Literal(Item),
     Empty,
@@ -31,14 +33,14 @@ pub enum Record {
 }
 
 // A record and the offset after it.
-#[derive(Drop)]
+#[derive(Clone, Copy)]
 pub struct Decoded {
     pub kind: Record,
     pub next: usize,
 }
 
 // What stands at an offset: a record, or a bad mark, field or cut record.
-#[derive(Drop)]
+#[derive(Clone, Copy)]
 pub enum Reading {
     Sound(Decoded),
     Unsound,
@@ -46,7 +48,7 @@ pub enum Reading {
 
 // What follows a record: no operand; no operand, and a variable must be bound; one operand; two; two of which the
 // second sees one more variable; three.
-#[derive(Drop)]
+#[derive(Clone, Copy)]
 pub enum Operands {
     None,
     Variable(usize),
@@ -57,7 +59,7 @@ pub enum Operands {
 }
 
 // The number in a field of a record, or that the field is cut or out of its range.
-#[derive(Drop)]
+#[derive(Clone, Copy)]
 enum Field {
     Is(usize),
     Unsound,

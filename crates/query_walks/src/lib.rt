@@ -1,4 +1,6 @@
 // Walks over an accepted query: the offset past an operand, and its free variables.
+#![tactic(auto)]
+
 ghost use Rattle.query_walks.specs.Parse.{parse, Past, Free, Either};
 
 use query_records::flags::with;

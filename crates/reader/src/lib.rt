@@ -1,4 +1,6 @@
 // The reader of typed queries: a text's records; or refusal 9, then 2 and 3 with the places of the records, then 8.
+#![tactic(auto)]
+
 ghost use Rattle.std.specs.Prelude.{◌≡◌, ◌≤◌, length};
 ghost use Rattle.grammar.specs.Typed.{TypedCall};
 ghost use Rattle.recording.specs.Recorded.{most_bytes};
@@ -8,7 +10,7 @@ use operands::PartRead;
 use queries::Checked;
 
 // The answer of the reader: how many records there are and how many bytes they have; or a refusal, with its place.
-#[derive(Drop)]
+#[derive(Clone, Copy)]
 pub enum Typed {
     Records { records: usize, bytes: usize },
     Outside(usize),

@@ -1,5 +1,7 @@
 // The records of a typed query, in an array of 1,024 bytes: each is added behind the others, or put in before its left
 // operand. What passes the end of the array is lost.
+#![tactic(auto)]
+
 ghost use Rattle.std.specs.Prelude.{◌≡◌, [], ◌∷◌, ◌++◌, ◌-◌, ◌≤◌, ◌<◌, min, length};
 ghost use Rattle.cells.specs.Bytes.{bytes_of};
 ghost use Rattle.grammar.specs.Records.{record_ql, record_qb, record_qe, record_qr, record_qv, record_qs, record_qt, record_qf};

@@ -1,5 +1,7 @@
 // The axes that look back: parent, ancestor and preceding. Each is one pass over the rows, downwards: it takes the
 // marks of the contexts and leaves the marks of the nodes that are reached.
+#![tactic(auto)]
+
 ghost use Rattle.codes.specs.declared.Axis.TheVariants as Axes;
 ghost use Rattle.step_parts.specs.Steps.{Ready, Step};
 

@@ -1,4 +1,6 @@
 // What the row-wise operators RA, RP, RD, RS and RF do with one row.
+#![tactic(auto)]
+
 pub mod added;
 pub mod search;
 

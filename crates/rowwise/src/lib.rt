@@ -1,4 +1,6 @@
 // The row-wise operators RA, RP, RD, RS and RF over the rows of a table.
+#![tactic(auto)]
+
 pub mod each;
 
 use codes::Function;
@@ -6,7 +8,7 @@ use tables::Stand;
 
 // What a row-wise operator does with each row. The columns of Project stand in the plan's bytes: how many, and from
 // where on.
-#[derive(Drop)]
+#[derive(Clone, Copy)]
 pub enum Task {
     Attach(i64),
     Project(usize, usize),

@@ -1,5 +1,7 @@
 // The rules of the translation within one iteration that come behind operands: the operators that a record, and the
 // whole query, adds to those of its operands.
+#![tactic(auto)]
+
 ghost use Rattle.std.specs.Prelude.{◌≡◌, [], ◌∷◌, ◌+◌, ◌<◌, pos};
 ghost use Rattle.meaning.specs.Translation.{Made, tail_s, tail_o, tail_c, tail_d, tail_x, tail_last};
 ghost use Rattle.adding.specs.Ruled.{PenRoom, Wrote, Ruled};

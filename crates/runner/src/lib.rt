@@ -1,4 +1,6 @@
 // The runner: the checks, the work of crates/running, and the answer.
+#![tactic(auto)]
+
 ghost use Rattle.std.specs.Prelude.{◌≡◌, length};
 ghost use Rattle.meaning.specs.Calls.{run_call};
 ghost use Rattle.runner.specs.Answers.{answered, filled_by, bad_plan, bad_catalogue, concluding};
@@ -8,7 +10,7 @@ use running::Walked;
 
 // What a run answers: the start and the rows of the last table and the cells filled; or the place of refusal 5, 4, 6 or
 // 7.
-#[derive(Drop)]
+#[derive(Clone, Copy)]
 pub enum Ran {
     Tables {
         start: usize,

@@ -1,4 +1,6 @@
 // The work of the runner: the tables of a sound plan, laid end to end in the lent cells.
+#![tactic(auto)]
+
 ghost use Rattle.std.specs.Prelude.{◌≡◌, ◌≤◌, ◌<◌, length};
 ghost use Rattle.meaning.specs.Calls.{room};
 ghost use Rattle.meaning.specs.Catalogue.{catalogue_of};
@@ -14,7 +16,7 @@ use plan_records::Reading;
 
 // What the operators of a plan come to: the start and the rows of the last table and the cells filled; or the place of
 // refusal 6 or 7.
-#[derive(Drop)]
+#[derive(Clone, Copy)]
 pub enum Walked {
     Tables {
         start: usize,

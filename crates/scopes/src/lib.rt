@@ -1,4 +1,6 @@
 // The rules that make iterations or choose among them: QF and QI.
+#![tactic(auto)]
+
 ghost use Rattle.meaning.specs.Translation.{head_f, tail_f, head_i};
 ghost use Rattle.adding.specs.Ruled.{PenRoom, Wrote, Ruled};
 ghost use Rattle.scopes.specs.Choices.{choice};

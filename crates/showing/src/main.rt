@@ -2,6 +2,8 @@
 // runner laid it in the lent cells. The word `tables` shows the plan of the query in `query.bin`, the word `typed` that
 // of the typed query in `query.xq`, the word `plan` that in `plan.bin`, all over the catalogue in `doc.bin`; `cases`
 // shows the stored cases of `cases.bin`.
+#![tactic(auto)]
+
 ghost use Rattle.std.specs.Prelude.{◌+◌, ◌≤◌, ◌<◌, ◌≡◌, length};
 ghost use Rattle.shown_records.specs.Records.{Within};
 
@@ -283,7 +285,7 @@ fn show_plan_file(doc: &[u8]) {
 }
 
 // What is shown: the query in `query.bin`, the typed one in `query.xq`, or the plan in `plan.bin`.
-#[derive(Drop)]
+#[derive(Clone, Copy)]
 enum Source {
     Query,
     Text,

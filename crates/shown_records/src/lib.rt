@@ -1,4 +1,6 @@
 // The records of a plan, one after another, and the fields of each.
+#![tactic(auto)]
+
 ghost use Rattle.std.specs.Prelude.{◌≡◌, ◌+◌, ◌-◌, ◌≤◌, ◌<◌, length};
 ghost use Rattle.shown_records.specs.Records.{Within, size_of, field_at, Ahead};
 
@@ -9,7 +11,7 @@ use plan_widths::Width;
 
 // What stands at an offset: a record and the offset after it, with the width of its table; a record that does
 // not suit the tables before it; or no record.
-#[derive(Drop)]
+#[derive(Clone, Copy)]
 pub enum Seen {
     Suited { next: usize, width: usize },
     Unsuited(usize),
@@ -17,7 +19,7 @@ pub enum Seen {
 }
 
 // A field: a number or a cell, and the offset after it; or that the record has no more.
-#[derive(Drop)]
+#[derive(Clone, Copy)]
 pub enum ShownField {
     Number(usize, usize),
     Cell(i64, usize),

@@ -1,4 +1,6 @@
 // The text of a row: its cells in columns of 12 characters, each at the right of its own.
+#![tactic(auto)]
+
 ghost use Rattle.std.specs.Prelude.{◌≡◌, ◌++◌, ◌+◌, ◌^◌, ◌≤◌, ◌<◌, length};
 ghost use Rattle.pen.specs.Penned.{Pens};
 ghost use Rattle.pen.specs.Decimal.{decimal};

@@ -1,4 +1,6 @@
 // The cells of the table of an operator, asked of the runner: the plan to run, and where the table then stands.
+#![tactic(auto)]
+
 ghost use Rattle.std.specs.Prelude.{◌≡◌, ◌+◌, ◌≤◌, ◌<◌, length};
 ghost use Rattle.lines.specs.Placed.{Put};
 ghost use Rattle.runner.specs.Answers.{answered};
@@ -7,7 +9,7 @@ ghost use Rattle.shown_tables.specs.Places.{asked_plan, place_in, placed, PlaceS
 use runner::Ran;
 
 // The cells of a table, from `start` up to `end`; or that there is no such table.
-#[derive(Drop)]
+#[derive(Clone, Copy)]
 pub enum Place {
     Cells { start: usize, end: usize },
     Nothing,

@@ -1,4 +1,6 @@
 // A row of a catalogue, checked by itself.
+#![tactic(auto)]
+
 ghost use Rattle.std.specs.Prelude.{◌≡◌, ◌+◌, ◌*◌, ◌≤◌, length};
 ghost use Rattle.laws.specs.Attempt.{provided, gives};
 ghost use Rattle.meaning.specs.Catalogue;
@@ -13,7 +15,7 @@ use codes::limits::DEEPEST;
 const DN: u16 = 0x444E;
 
 // The level of a sound row, or that the row is unsound.
-#[derive(Drop)]
+#[derive(Clone, Copy)]
 pub enum ReadRow {
     Level(usize),
     Unsound,

@@ -1,6 +1,8 @@
 // The words of a typed query, read from a lent text from an offset on, past the spaces; and the answers of the
 // crates that read axes, tests, steps and the word behind an operand. Each answers what the definition of the reader
 // does on what is left of the text.
+#![tactic(auto)]
+
 ghost use Rattle.std.specs.Prelude.{◌≡◌, ◌≤◌, ◌<◌, length, drop};
 ghost use Rattle.laws.specs.Characters;
 ghost use Rattle.grammar.specs.Spelled;
@@ -13,7 +15,7 @@ use numerals::{Fixed, Numeral, byte, is_digit, is_space, spaces, word};
 use parsing::Next;
 
 // What stands directly before: a symbol; a word of letters or digits; a name.
-#[derive(Drop)]
+#[derive(Clone, Copy)]
 pub enum Before {
     Symbol,
     Word,
@@ -21,28 +23,28 @@ pub enum Before {
 }
 
 // The word after an operand and where it ends; or the place where no text of the grammar goes on.
-#[derive(Drop)]
+#[derive(Clone, Copy)]
 pub enum NextRead {
     Past(Next, usize),
     Stuck(usize),
 }
 
 // An axis and where it ends.
-#[derive(Drop)]
+#[derive(Clone, Copy)]
 pub enum AxisRead {
     Past(Axis, usize),
     Stuck(usize),
 }
 
 // A test and where it ends.
-#[derive(Drop)]
+#[derive(Clone, Copy)]
 pub enum TestRead {
     Past(Test, usize),
     Stuck(usize),
 }
 
 // A step and where it ends.
-#[derive(Drop)]
+#[derive(Clone, Copy)]
 pub enum StepRead {
     Past(Axis, Test, usize),
     Stuck(usize),

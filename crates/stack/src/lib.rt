@@ -1,4 +1,6 @@
 // Items on one stack of lent cells: what stands there, and the moves that ask nothing of what the items are.
+#![tactic(auto)]
+
 ghost use Rattle.std.specs.Prelude.{◌≡◌, [], ◌∷◌, ℕ, ◌+◌, ◌-◌, ◌≤◌, max, length};
 ghost use Rattle.laws.specs.Rows.{row};
 ghost use Rattle.meaning.specs.Counted.{adding};
@@ -8,7 +10,7 @@ ghost use Rattle.stack.specs.Moves.{kept, counted};
 
 // What an operand leaves on the stack: how many items stand there, the count of what stood while they were worked out,
 // and the offset after the operand; or refusal 6 or 7 and its place.
-#[derive(Drop)]
+#[derive(Clone, Copy)]
 pub enum Stood {
     Items {
         length: usize,
@@ -20,7 +22,7 @@ pub enum Stood {
 }
 
 // What two operands leave there, one behind the other.
-#[derive(Drop)]
+#[derive(Clone, Copy)]
 pub enum Pair {
     Items {
         first: usize,

@@ -1,4 +1,6 @@
 // What the records of a query that read the catalogue or an item's value do with what their operands left on the stack.
+#![tactic(auto)]
+
 ghost use Rattle.std.specs.Prelude.{◌≡◌, ℕ, ◌+◌, ◌-◌, ◌*◌, ◌≤◌, ◌<◌, length};
 ghost use Rattle.meaning.specs.Catalogue.{Catalogue, catalogue_of};
 ghost use Rattle.meaning.specs.World.{world_of};

@@ -1,4 +1,6 @@
 // What every axis's pass asks of a row: whether it passes the test, where the rows that its size covers end, its level.
+#![tactic(auto)]
+
 ghost use Rattle.std.specs.Prelude.{ℕ, ◌+◌, ◌*◌, ◌≤◌, ◌<◌, ◌≡◌, cond, ◌&&◌, length};
 ghost use Rattle.meaning.specs.Catalogue.{catalogue_of};
 ghost use Rattle.meaning.specs.World;

@@ -1,4 +1,6 @@
 // One group of RX: the nodes that a step reaches from the nodes of an iteration.
+#![tactic(auto)]
+
 ghost use Rattle.std.specs.Prelude.{◌≡◌, [], ◌∷◌, map, ◌*◌, ◌≤◌, ◌<◌, length, get_or};
 ghost use Rattle.laws.specs.Lists.{all};
 ghost use Rattle.laws.specs.Attempt.{gives, attempt};

@@ -6,7 +6,7 @@ ghost use Rattle.std.specs.Prelude.{◌≤◌, ◌<◌, length};
 use evaluator::Evaluated;
 use runner::Ran;
 
-#[derive(Drop)]
+#[derive(Clone, Copy)]
 pub enum Engine {
     Evaluator,
     Runner,

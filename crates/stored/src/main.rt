@@ -1,4 +1,6 @@
 // Runs the stored cases of data/, file by file: a heading, then of each case what the call answers and leaves.
+#![tactic(auto)]
+
 use engines::Engine;
 use makers::Maker;
 

@@ -7,7 +7,7 @@ use reader::Typed;
 use translator::Translated;
 use wording::Written;
 
-#[derive(Drop)]
+#[derive(Clone, Copy)]
 pub enum Maker {
     Translator,
     Reader,

@@ -1,12 +1,14 @@
 // Tables laid end to end in lent cells: where one stands, what an operator answers, and how the cells of a column are
 // ordered.
+#![tactic(auto)]
+
 pub mod order;
 
 ghost use Rattle.std.specs.Prelude.{◌≡◌, ◌+◌, ◌≤◌, length};
 ghost use Rattle.laws.specs.Rows.{row, laid};
 
 // Where a table stands: its first cell, its rows and its width.
-#[derive(Drop)]
+#[derive(Clone, Copy)]
 pub struct Stand {
     pub at: usize,
     pub rows: usize,
@@ -14,7 +16,7 @@ pub struct Stand {
 }
 
 // What an operator answers: how many rows it laid; that they would pass the room; that it fails.
-#[derive(Drop)]
+#[derive(Clone, Copy)]
 pub enum Laid {
     Rows(usize),
     Full,

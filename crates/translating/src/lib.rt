@@ -1,4 +1,6 @@
 // The work of the translator: the operators of a query's expressions, written over lent bytes.
+#![tactic(auto)]
+
 ghost use Rattle.std.specs.Prelude.{◌≡◌, get_or};
 ghost use Rattle.meaning.specs.Query.{QS, QT, QF, QI, QO, QC, QD, QX};
 ghost use Rattle.query_walks.specs.Parse.{parse};

@@ -1,4 +1,6 @@
 // The translator: the query check, the plan that crates/translating writes over lent bytes, and the answer.
+#![tactic(auto)]
+
 ghost use Rattle.std.specs.Prelude.{◌≡◌, length};
 ghost use Rattle.meaning.specs.Calls.{translate_call};
 ghost use Rattle.translator.specs.Answers.{answered, Hands, WholeQuery, Concludes};
@@ -8,7 +10,7 @@ use codes::limits::{LEVELS, OPERATORS};
 use queries::Checked;
 
 // The answer of the translator, with the place of a refusal.
-#[derive(Drop)]
+#[derive(Clone, Copy)]
 pub enum Translated {
     Plan { operators: usize, bytes: usize },
     Unsound(usize),

@@ -1,4 +1,6 @@
 // What program `charttext` prints for the bytes of its two files: all of it but the reading and the writing of files.
+#![tactic(auto)]
+
 ghost use Rattle.std.specs.Prelude.{◌≤◌, ◌≡◌, length, take};
 ghost use Rattle.lines.specs.Text.{same_no, Nowhere};
 ghost use Rattle.lines.specs.Printed.{told_by};

@@ -1,5 +1,7 @@
 // The reader of typed queries: the cycle over the levels of the grammar. Every function answers what the definition of
 // the reader does, with `left` falling at each part inside and at each turn of a chain.
+#![tactic(auto)]
+
 ghost use Rattle.std.specs.Prelude.{◌≡◌, List, ℕ, ◌≤◌, length, drop};
 ghost use Rattle.parsing.specs.Reader;
 ghost use Rattle.spelling.specs.Answers;
@@ -22,7 +24,7 @@ use spelling::{Before, enter, fixed};
 const GROUPS: usize = 32;
 
 // A chain: of items, of the two sides of a comparison, of terms, of factors.
-#[derive(Drop)]
+#[derive(Clone, Copy)]
 pub enum Chain {
     Items,
     Sides,

@@ -1,4 +1,6 @@
 // The operators that take tables whole: RT, RU, RK and RO.
+#![tactic(auto)]
+
 pub mod once;
 
 ghost use Rattle.std.specs.Prelude.{◌≡◌, [], ◌∷◌, ◌++◌, ◌+◌, ◌*◌, ◌≤◌, ◌<◌, pos, length};

@@ -1,4 +1,6 @@
 // The writer of typed queries: the query check, the text of the query's expressions over lent bytes, and the answer.
+#![tactic(auto)]
+
 ghost use Rattle.std.specs.Prelude.{◌≡◌, length};
 ghost use Rattle.grammar.specs.Written.{text_of, write_call};
 ghost use Rattle.query_walks.specs.Parse.{parse};
@@ -13,14 +15,14 @@ use queries::Checked;
 use query_records::{Operands, Reading, Record};
 
 // Where writing stands behind an expression: the offset after its records, the position after its text.
-#[derive(Drop)]
+#[derive(Clone, Copy)]
 pub struct Spot {
     pub next: usize,
     pub end: usize,
 }
 
 // The answer of the writer, with the place of a refusal.
-#[derive(Drop)]
+#[derive(Clone, Copy)]
 pub enum Written {
     Text(usize),
     Unsound(usize),

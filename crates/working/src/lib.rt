@@ -1,4 +1,6 @@
 // The work of the evaluator: a query worked out record by record, its items on one stack of lent cells.
+#![tactic(auto)]
+
 ghost use Rattle.std.specs.Prelude.{ℕ, ◌+◌, ◌≤◌, ◌<◌};
 ghost use Rattle.meaning.specs.Catalogue.{catalogue_of};
 ghost use Rattle.meaning.specs.World.{world_of};

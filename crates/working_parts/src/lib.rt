@@ -1,5 +1,7 @@
 // What the evaluator does at a record apart from working out its operands: where each variable's items stand, a step
 // with cells of its own, and the answer of an `if`.
+#![tactic(auto)]
+
 ghost use Rattle.std.specs.Prelude.{◌≡◌, cond, ◌-◌, ◌<◌};
 ghost use Rattle.meaning.specs.Catalogue.{catalogue_of};
 ghost use Rattle.meaning.specs.World.{world_of};
@@ -15,14 +17,14 @@ use codes::{Axis, Test};
 use stack::Stood;
 
 // Where each variable's items stand on the stack: from which cell on, and how many.
-#[derive(Drop)]
+#[derive(Clone, Copy)]
 pub struct Scope {
     pub starts: [usize; 8],
     pub lengths: [usize; 8],
 }
 
 // The variable that the second of two operands sees the items of the first in, if any.
-#[derive(Drop)]
+#[derive(Clone, Copy)]
 pub enum Binding {
     Nothing,
     Variable(usize),

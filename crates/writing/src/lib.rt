@@ -1,5 +1,7 @@
 // Writing the records of a plan over lent bytes. Each function takes the position to write at and gives the position
 // after. No function loops.
+#![tactic(auto)]
+
 ghost use Rattle.std.specs.Prelude.{[], ◌∷◌, ◌++◌, ◌+◌, ◌^◌, ◌<◌, length};
 ghost use Rattle.cells.specs.Bytes.{bytes_of};
 ghost use Rattle.meaning.specs.Plan.{RT, RA, RP, RU, RD, RS, RJ, RN, RF, RV, RC, RE, RK, RX, RO};
@@ -10,7 +12,7 @@ ghost use Rattle.writing.specs.Listed.{columns_of, keys_of};
 use codes::{Axis, Function, Test, marks};
 
 // The columns of a projection: the rules of the translation name one to four.
-#[derive(Drop)]
+#[derive(Clone, Copy)]
 pub enum Columns {
     One(u8),
     Two(u8, u8),
@@ -19,7 +21,7 @@ pub enum Columns {
 }
 
 // The keys of a numbering.
-#[derive(Drop)]
+#[derive(Clone, Copy)]
 pub enum Keys {
     One(u8),
     Two(u8, u8),
