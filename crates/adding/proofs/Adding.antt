@@ -1,14 +1,14 @@
 -- Laws of operators written one after another.
 --     operator_size        the record of an operator is at most 12 bytes long
---     pens-of              an operator's record, where it is known which operator it is
---     pens-cell            a cell that is read back from its bits
+--     pens_of              an operator's record, where it is known which operator it is
+--     pens_cell            a cell that is read back from its bits
 --     wrote_none           no operator
 --     wrote_one            one operator, from what its writer leaves
 --     wrote_then           operators, then more
 --     wrote_room           the room after operators
 --     wrote_length         the lent bytes stay as many as they were
---     wrote-cell           a cell that is read back from its bits
---     ruled-then           operators, then a rule's
+--     wrote_cell           a cell that is read back from its bits
+--     ruled_then           operators, then a rule's
 use Prim.Native.Nat.{ℕ, ◌+◌, ◌≤◌}
 use mathlib.Core.Path.{◌≡◌, refl, sym, ap, ◌∙◌, subst}
 use mathlib.Core.List.{List, [], ◌∷◌, ◌++◌, append-nil}
@@ -31,7 +31,7 @@ use Rattle.writing.specs.declared.Columns.TheVariants as Columns
 use Rattle.writing.specs.declared.Keys.{Keys}
 use Rattle.writing.specs.declared.Keys.TheVariants as Keys
 use Rattle.pen.proofs.Penned.{penned_length}
-use Rattle.writing.proofs.Putting.{pens-operators}
+use Rattle.writing.proofs.Putting.{pens_operators}
 use Rattle.adding.specs.declared.Operator.{Operator}
 use Rattle.adding.specs.declared.Operator.TheVariants.{First, Attach, Project, Union, Minus, Select, Join}
 use Rattle.adding.specs.declared.Operator.TheVariants.{Number}
@@ -75,16 +75,16 @@ operator_size (Once t c) = lit≤ tt
 operator_size (Step t axis test) = lit≤ tt
 operator_size (Root t k) = lit≤ tt
 
-pub pens-of :
+pub pens_of :
     {o k : Operator} {at r : ℕ} {x y : List ℕ} → o ≡ k → Pens at (operator_bytes (operator_of k)) x y r →
     Pens at (operator_bytes (operator_of o)) x y r
-pens-of {at = at} {r = r} {x = x} {y = y} e h =
+pens_of {at = at} {r = r} {x = x} {y = y} e h =
     subst (λ (o : Operator). Pens at (operator_bytes (operator_of o)) x y r) (sym e) h
 
-pub pens-cell :
+pub pens_cell :
     (t : ℕ) (z : ℤ) {at r : ℕ} {x y : List ℕ} → SFits w64 z →
     Pens at (operator_bytes (RA t (to_z w64 (of_z w64 z)))) x y r → Pens at (operator_bytes (RA t z)) x y r
-pens-cell t z {at} {r} {x} {y} h w = subst (λ (u : ℤ). Pens at (operator_bytes (RA t u)) x y r) (to_z-of_z h) w
+pens_cell t z {at} {r} {x} {y} h w = subst (λ (u : ℤ). Pens at (operator_bytes (RA t u)) x y r) (to_z-of_z h) w
 
 pub wrote_none : (x : List ℕ) (p : Pen) → Wrote [] x p x p
 unfolding penned written gather
@@ -105,17 +105,17 @@ wrote_one o p x y at h =
       short = omega (arith, h.ends, operator_size o);
     }
 
-pub wrote-cell :
+pub wrote_cell :
     (t : ℕ) (z : ℤ) {x y : List ℕ} {p q : Pen} → SFits w64 z →
     Wrote (RA t (to_z w64 (of_z w64 z)) ∷ []) x p y q → Wrote (RA t z ∷ []) x p y q
-wrote-cell t z {x} {y} {p} {q} h w = subst (λ (u : ℤ). Wrote (RA t u ∷ []) x p y q) (to_z-of_z h) w
+wrote_cell t z {x} {y} {p} {q} h w = subst (λ (u : ℤ). Wrote (RA t u ∷ []) x p y q) (to_z-of_z h) w
 
 module _ {x y : List ℕ} {p q : Pen} {os : List Op} (f : Wrote os x p y q) where
   pub wrote_then : {z : List ℕ} {r : Pen} {ps : List Op} → Wrote ps y q z r → Wrote (os ++ ps) x p z r
   wrote_then {z} {r} {ps} g =
       record {
         count = simp length-append (omega arith);
-        pens = pens-operators os ps f.pens g.pens;
+        pens = pens_operators os ps f.pens g.pens;
         short = omega arith;
       }
 
@@ -125,7 +125,7 @@ module _ {x y : List ℕ} {p q : Pen} {os : List Op} (f : Wrote os x p y q) wher
   pub wrote_length : length y ≡ length x
   wrote_length = ap length f.pens.leaves ∙ penned_length x p.at (written os)
 
-  pub ruled-then :
+  pub ruled_then :
       {z : List ℕ} {r : Output} {m : Made} {next : ℕ} → Ruled m next y q z r → Ruled (then os m) next x p z r
   unfolding then
-  ruled-then g = record { wrote = wrote_then g.wrote; table = g.table; after = g.after }
+  ruled_then g = record { wrote = wrote_then g.wrote; table = g.table; after = g.after }

@@ -33,7 +33,7 @@ use Rattle.meaning.specs.Written.{written}
 use Rattle.meaning.specs.Calls.{gives, refused, Outcome, refusal, room, plan_of, translate_outcome}
 use Rattle.laws.specs.Rows.{padded, flat}
 use Rattle.meaning.specs.Calls.{translate_call, last_table, run_call, evaluate_call}
-use Rattle.laws.proofs.Outcomes.{reads_same, found_reads, found_unless, found-reading}
+use Rattle.laws.proofs.Outcomes.{reads_same, found_reads, found_unless, found_reading}
 use Rattle.theorems.proofs.Counts.{counts}
 use Rattle.theorems.proofs.Counted.{evaluate_done, evaluate_failed, running_done, running_failed, running_fits}
 use Rattle.agreement.specs.Passing.{Passed, PlanPassed, means, evaluation, makes, the_run, Refused, Cleared}
@@ -124,8 +124,8 @@ evaluate_cleared query doc =
       long = λ lent.
           ap (λ (o : Outcome ℤ). length o.left) (evaluate_ended lent _)
           ∙ ended_long (evaluated lent) (evaluated_plain lent) lent _
-          (found-reading (found_same (query_read query))
-          (λ r a. found-reading (found_same (catalogue_read doc))
+          (found_reading (found_same (query_read query))
+          (λ r a. found_reading (found_same (catalogue_read doc))
           (λ c b. found_reads (λ s d. evaluated_long lent (world_of c) r.tree s d))));
       zeroed = λ lent n p e.
           ap (λ (o : Outcome ℤ). o.left) (evaluate_ended lent _)
@@ -148,8 +148,8 @@ run_cleared bytes doc =
       long = λ lent.
           ap (λ (o : Outcome ℤ). length o.left) (run_ended lent _)
           ∙ ended_long (ran lent) (ran_plain lent) lent _
-          (found-reading (found_same (plan_read bytes))
-          (λ ps a. found-reading (found_same (catalogue_read doc))
+          (found_reading (found_same (plan_read bytes))
+          (λ ps a. found_reading (found_same (catalogue_read doc))
           (λ c b. found_reads (λ f d. ran_long bytes ps lent (world_of c) f a d))));
       zeroed = λ lent n p e.
           ap (λ (o : Outcome ℤ). o.left) (run_ended lent _)
@@ -180,7 +180,7 @@ unfolding translate_call
 translate_cleared query =
     record {
       long = λ lent.
-          translate_long lent _ (found-reading (found_same (query_read query)) (λ r a. plan_long lent r.tree));
+          translate_long lent _ (found_reading (found_same (query_read query)) (λ r a. plan_long lent r.tree));
       zeroed = λ lent n p e. translate_zeroed lent _ n p e;
     }
 
@@ -273,7 +273,7 @@ pub translate_written : (query : List ℕ) (r : Read) → query_read query ≡ r
 unfolding translate_call
 translate_written query r a lent n m e =
     outcome_written lent n m r.tree _
-    (found-reading (found_same (query_read query))
+    (found_reading (found_same (query_read query))
     (λ r' b. subst (λ (x : Read). Found (λ os. os ≡ plan r.tree) (plan_of lent x.tree)) (reads_same (sym a ∙ b))
     (plan_found lent r.tree))) e
 

@@ -1,7 +1,7 @@
 -- Demand 3: the run of a query's written plan and the evaluation of the query agree, in any room.
 --     plan_passed      what the translator leaves passes the plan's check, with the operators of the query's plan
---     engines-agree    if neither answers 6, both answer 7, or both give the items that the query means
---     agree-in-hand    .. of the answers and cells in hand
+--     engines_agree    if neither answers 6, both answer 7, or both give the items that the query means
+--     agree_in_hand    .. of the answers and cells in hand
 use Prim.Native.Nat.{ℕ, ◌-◌, ◌*◌}
 use mathlib.Core.Path.{◌≡◌, refl, sym, ap, ap₂, ◌∙◌, subst, subst₂}
 use mathlib.Core.List.{List, [], ◌∷◌, map}
@@ -23,7 +23,7 @@ use Rattle.meaning.specs.Calls.{Answer, gives, Outcome, refusal, room, catalogue
 use Rattle.meaning.specs.Calls.{translate_call, last_table, run_call, evaluate_call}
 use Rattle.laws.proofs.Outcomes.{fails_gives, gives_same, reads_same}
 use Rattle.theorems.proofs.Counted.{evaluate_done, evaluate_failed, running_done, running_failed}
-use Rattle.theorems.proofs.PlanRead.{query-plan-back, translated}
+use Rattle.theorems.proofs.PlanRead.{query_plan_back, translated}
 use Rattle.theorems.specs.PlanRead.{TranslatedPlan}
 use Rattle.agreement.specs.Machine as Machine
 use Rattle.agreement.specs.Machine.{SameRun}
@@ -50,7 +50,7 @@ plan_passed query doc bytes i lent n m e =
     let t : TranslatedPlan query lent n m = translated query lent n m e in
     let same : t.read ≡ i.read = reads_same (sym t.accepted ∙ i.query_reads) in
     let (ps, back) =
-    query-plan-back query t.read bytes t.accepted (omega (arith, t.operators, t.within)) in
+    query_plan_back query t.read bytes t.accepted (omega (arith, t.operators, t.within)) in
     record {
       passed =
           record {
@@ -173,14 +173,14 @@ module _ {query doc : List ℕ} (i : Passed query doc) (lent : ℕ)
 
 -- Both
 
-pub engines-agree :
+pub engines_agree :
     (query doc : List ℕ) → Bytes query → (i : Passed query doc) (lent forRun forEvaluation n m : ℕ)
     → (translate_call query lent).answer ≡ gives (n ∷ m ∷ [])
     → ¬ (Refused 6 (run_call (take m (translate_call query lent).left) doc forRun).answer)
     → ¬ (Refused 6 (evaluate_call query doc forEvaluation).answer)
     → Alike (means i) (run_call (take m (translate_call query lent).left) doc forRun)
     (evaluate_call query doc forEvaluation)
-engines-agree query doc bytes i lent a b n m e not-run not-evaluation =
+engines_agree query doc bytes i lent a b n m e not-run not-evaluation =
     go (same_run_read i.catalogue query i.read i.query_reads)
   where
     back : ReadBack i.read.tree (take m (translate_call query lent).left) doc i.catalogue
@@ -211,7 +211,7 @@ unfolding catalogue_answer
 catalogue_passed rows (refuses n p) e = gives_refused (rows ∷ []) n p (sym e)
 catalogue_passed rows (reads c) e = (c, refl)
 
-pub agree-in-hand :
+pub agree_in_hand :
     (query doc bytes : List ℕ) (cells items : List ℤ) (t k r e : Answer) (lent forRun forEvaluation n m rows : ℕ)
     → Bytes query
     → HeldOutcome (translate_call query lent) t bytes → t ≡ gives (n ∷ m ∷ [])
@@ -221,7 +221,7 @@ pub agree-in-hand :
     → (i : Passed query doc)
     × Alike (means i) (record { answer = r; left = cells }) (record { answer = e; left = items })
 unfolding catalogue_call
-agree-in-hand query doc bytes cells items t k r e lent a b n m rows small ht ot hk ok hr not-run he not-evaluation =
+agree_in_hand query doc bytes cells items t k r e lent a b n m rows small ht ot hk ok hr not-run he not-evaluation =
     let told : (translate_call query lent).answer ≡ gives (n ∷ m ∷ []) = sym ht.answers ∙ ot in
     let passed : TranslatedPlan query lent n m = translated query lent n m told in
     let (c, sound) = catalogue_passed rows (catalogue_read doc) (sym hk ∙ ok) in
@@ -232,7 +232,7 @@ agree-in-hand query doc bytes cells items t k r e lent a b n m rows small ht ot 
     let theirs : record { answer = e; left = items } ≡ evaluate_call query doc b = held_is _ e items he in (
       i,
       subst₂ (Alike (means i)) (sym ours) (sym theirs)
-          (engines-agree query doc small i lent a b n m told
+          (engines_agree query doc small i lent a b n m told
           (λ s. not-run (s.0, answer_of_lem ours ∙ s.1))
           (λ s. not-evaluation (s.0, answer_of_lem theirs ∙ s.1))),
     )

@@ -19,7 +19,7 @@ use borrow.Author.Tests.{eq-eqb}
 use Rattle.laws.specs.Lists.{filter, All, In}
 use Rattle.laws.specs.Sorting.{sort, Sorted, Weak}
 use Rattle.laws.specs.Keyed.{Key, rising_by, within, counted, joined, filled, in_turn, AtMostOne}
-use Rattle.laws.proofs.Lists.{all_any, all_kept, rising-mapped}
+use Rattle.laws.proofs.Lists.{all_any, all_kept, rising_mapped}
 use Rattle.laws.proofs.Filters.{all_of, in_filter, filter_map, filter_same}
 use Rattle.laws.proofs.Booleans.{by_cases}
 use Rattle.laws.proofs.Filters.{all_unmapped}
@@ -77,7 +77,7 @@ numbers_rise a =
 pub map_rises : (a : List Triple) → Sorted (λ (x y : ℕ × ℕ). leb x.1 y.1) (map_of (all_in_order a))
 unfolding map_of
 map_rises a =
-    rising-mapped (λ (x y : ℕ × ℕ). leb y.1 x.1 ≡ false) (λ r. (r.0.iter, r.1)) (all_in_order a)
+    rising_mapped (λ (x y : ℕ × ℕ). leb y.1 x.1 ≡ false) (λ r. (r.0.iter, r.1)) (all_in_order a)
     (numbers_rise a)
 
 pub numbers_once : (a : List Triple) (n : ℕ)

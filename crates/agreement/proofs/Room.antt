@@ -26,10 +26,10 @@ use Rattle.meaning.specs.Run.{cells, Filled, running}
 use Rattle.laws.proofs.Outcomes.{full_done, full_failed}
 use Rattle.theorems.proofs.Counts.{counts}
 use Rattle.theorems.specs.Counts.{Full}
-use Rattle.theorems.proofs.Counted.{evaluate_like, more_room, less-room}
+use Rattle.theorems.proofs.Counted.{evaluate_like, more_room, less_room}
 use Rattle.theorems.specs.Counted.{like_failed, like_done}
 use Rattle.theorems.specs.Counted.{Like, items}
-use Rattle.theorems.proofs.Counted.{running_more, running-less}
+use Rattle.theorems.proofs.Counted.{running_more, running_less}
 use Rattle.agreement.specs.Room.{after, turns, standing, filling}
 
 pub data Exact {A : Type 0} (room k : ℕ) : Work A → Type 0 where
@@ -236,11 +236,11 @@ pub standing_count : (w : World) (room : ℕ) (e : Env) (q : Query) (s : Standin
 standing_count w room e q s d =
     exact_one (standing w e q) s.count (λ left. evaluate_exact w left e q)
     (λ left h f. full_done f.0 s (sym f.1 ∙ more_room w room e q s d left h))
-    (λ left h. less-room w room e q s d left h)
+    (λ left h. less_room w room e q s d left h)
 
 pub filling_filled : (w : World) (room : ℕ) (ps : List Placed) (f : Filled) → running w room ps [] 0 ≡ done f
     → filling w ps [] ≡ f.filled
 filling_filled w room ps f d =
     exact_one (filling w ps []) f.filled (λ left. running_exact w left ps)
     (λ left h g. full_done g.0 f (sym g.1 ∙ running_more w room ps [] 0 f (omega arith) d left h))
-    (λ left h. running-less w room ps [] 0 f (omega arith) d left (omega arith) h)
+    (λ left h. running_less w room ps [] 0 f (omega arith) d left (omega arith) h)

@@ -32,8 +32,8 @@ use Rattle.meaning.specs.Calls.{last_table}
 use Rattle.laws.specs.Rows.{flat}
 use Rattle.theorems.proofs.PlanWidths.{attempt_gives, provided_gives}
 use Rattle.laws.proofs.Outcomes.{gives_same, full_done, failed_done, given_gives, given_any}
-use Rattle.laws.proofs.Outcomes.{given-attempt, given_provided, found_refuses, found_reads, found_unless}
-use Rattle.laws.proofs.Outcomes.{found_refusing, found-reading}
+use Rattle.laws.proofs.Outcomes.{given_attempt, given_provided, found_refuses, found_reads, found_unless}
+use Rattle.laws.proofs.Outcomes.{found_refusing, found_reading}
 use Rattle.theorems.specs.PlanRead.{widths_of}
 use Rattle.agreement.specs.RowWidths.{RowsOf, Widths, Follows, LastThree, TablesLaid}
 
@@ -102,7 +102,7 @@ given_each : {A : Type 0} {w : ℕ} (f : A → Attempt Table) (xs : List A) → 
 unfolding each
 given_each f [] h = given_gives tt
 given_each f (x ∷ xs) h =
-    given-attempt h.0 (λ ys k. given-attempt (given_each f xs h.1) (λ zs l. given_gives (all_append _ ys zs k l)))
+    given_attempt h.0 (λ ys k. given_attempt (given_each f xs h.1) (λ zs l. given_gives (all_append _ ys zs k l)))
 
 given_added : (f : Row → Attempt ℤ) (t : Table) (w : ℕ) → RowsOf w t → Given (RowsOf (w + 1)) (added f t)
 unfolding added
@@ -199,7 +199,7 @@ placed_given : (bs ws : List ℕ) (at : ℕ)
 unfolding placed_at
 placed_given bs ws at =
     given_any (operator_at bs at)
-    (λ o. given-attempt {P = λ w. width_of ws o.0 ≡ gives w} (record { given = λ w e. e }) (λ w e. given_gives e))
+    (λ o. given_attempt {P = λ w. width_of ws o.0 ≡ gives w} (record { given = λ w e. e }) (λ w e. given_gives e))
 
 -- one operator more before those that are read
 after_one : (ps qs : List Placed) (p : Placed) → width_of (widths_of ps) p.op ≡ gives p.width
@@ -221,7 +221,7 @@ from_after zero bs ps at = go (leb (length bs) at)
     go false = found_refuses
 from_after (suc left) bs ps at =
     go (leb (length bs) at)
-    (found-reading (found_refusing 5 at (placed_given bs (widths_of ps) at))
+    (found_reading (found_refusing 5 at (placed_given bs (widths_of ps) at))
     (λ o e. record {
       found = λ qs d. after_one ps qs o.0 e ((from_after left bs (ps ++ (o.0 ∷ [])) o.1).found qs d);
     }))

@@ -14,7 +14,7 @@ use Rattle.meaning.specs.Run.{running}
 use Rattle.meaning.specs.Calls.{gives, Outcome, room, run_call, evaluate_call}
 use Rattle.theorems.proofs.Counts.{measured, settled}
 use Rattle.theorems.specs.Counts.{Measured}
-use Rattle.theorems.proofs.Counted.{running-measured}
+use Rattle.theorems.proofs.Counted.{running_measured}
 use Rattle.agreement.specs.Passing.{Passed, PlanPassed, stands, fills, SixBelow}
 use Rattle.agreement.proofs.Room.{Exact, exact_short, exact_enough, evaluate_exact, running_exact}
 use Rattle.agreement.proofs.Room.{standing_count, filling_filled}
@@ -53,7 +53,7 @@ module _ (bytes doc : List ℕ) (i : PlanPassed bytes doc) where
   run_six =
       six_below (fills i) (λ left. running (world_of i.catalogue) left i.placed [] 0) ran (run_call bytes doc)
       (run_at i) ran_plain (λ lent lent' f. refl) (λ left. running_exact (world_of i.catalogue) left i.placed)
-      (running-measured (world_of i.catalogue) i.placed [] 0)
+      (running_measured (world_of i.catalogue) i.placed [] 0)
 
   pub filled_fills : (lent start rows filled : ℕ)
       → (run_call bytes doc lent).answer ≡ gives (start ∷ rows ∷ filled ∷ []) → filled ≡ fills i

@@ -1,6 +1,6 @@
 -- The keys of a numbering, read from the plan's bytes.
 --     one_column, two_columns     the bytes that name them
---     keys_suit, keys-owe         what is known of the columns is known of the keys
+--     keys_suit, keys_owe         what is known of the columns is known of the keys
 use Prim.Native.Nat.{ℕ, ◌+◌, ◌≤◌}
 use mathlib.Core.Path.{◌≡◌, sym, ap, ◌∙◌, subst}
 use mathlib.Core.List.{List, [], ◌∷◌}
@@ -32,7 +32,7 @@ module _ (ks : Keys) (cs : List ℕ) (p : ℕ) where
   unfolding Suits
   keys_suit w e h = subst (λ (l : List ℕ). ((eqb p 255 || ltb p w) && columns w l) ≡ true) (sym e) h
 
-  pub keys-owe :
+  pub keys_owe :
       (room at w : ℕ) (t : Table) (xs ys : List ℤ) (r : Laid) → columns_of ks ≡ cs →
       Owes room at w (gives (number t p (columns_of ks))) xs ys r → Owes room at w (gives (number t p cs)) xs ys r
-  keys-owe room at w t xs ys r e h = owes_is room at w xs ys r (ap (λ (l : List ℕ). gives (number t p l)) (sym e)) h
+  keys_owe room at w t xs ys r e h = owes_is room at w xs ys r (ap (λ (l : List ℕ). gives (number t p l)) (sym e)) h

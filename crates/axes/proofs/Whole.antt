@@ -3,7 +3,7 @@
 --     known_sound       a sound catalogue is what a step works on
 --     reached_ranks     from the marks of some ranks a step leaves the marks of exactly the ranks that it reaches
 --     step_gives        the step of a list of nodes gives the nodes that are marked in the end
---     step-fails        .. and fails where some cell is no node
+--     step_fails        .. and fails where some cell is no node
 use Prim.Native.Nat.{ℕ}
 use mathlib.Core.Path.{◌≡◌, sym, ap, subst, ◌∙◌}
 use mathlib.Core.List.{List, map}
@@ -53,8 +53,8 @@ module _
   unfolding step attempt catalogue_of
   step_gives xs all = rw (all.1, reached_ranks all.0 all.2)
 
-pub step-fails :
+pub step_fails :
     (c : Catalogue) (axis : Axis) (test : Test) (xs : List ℤ) (ms : List Bool) → FromAll c xs NotANode ms
     → step c axis test xs ≡ fails
 unfolding step attempt
-step-fails c axis test xs ms e = rw e
+step_fails c axis test xs ms e = rw e

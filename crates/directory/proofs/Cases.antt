@@ -1,5 +1,5 @@
 -- Operators, one by one, and the tables that they name.
---     sound_case, owes-case     what is known of an operator is known of its case: its soundness, and its promise
+--     sound_case, owes_case     what is known of an operator is known of its case: its soundness, and its promise
 --     listed                 a table of the list stands
 --     named_stand            the tables that a sound operator names stand
 --     made_none, made_of_lem     the width of its table: it names none, or two
@@ -24,7 +24,7 @@ use Rattle.plan_records.specs.Decoded.{operator_of}
 use Rattle.theorems.specs.PlanRead.{widths_of}
 use Rattle.plan_widths.specs.Widths as Widths
 use Rattle.plan_widths.specs.Widths.{tables_of}
-use Rattle.plans.proofs.Callers.{no_table, turn-fitting}
+use Rattle.plans.proofs.Callers.{no_table, turn_fitting}
 use Rattle.directory.specs.Directory.{widths_in, ListedTables}
 use Rattle.directory.specs.Sound.{TableStands, wide, made_of, made_width, SoundOf, SoundOperator, Served}
 use Rattle.directory.proofs.Entries.{length_widths, width_of}
@@ -33,11 +33,11 @@ module _ (o k : Operator) (e : o ≡ k) where
   pub sound_case : (plan dir : List ℕ) (n : ℕ) → SoundOperator plan dir n o → SoundOperator plan dir n k
   sound_case plan dir n h = subst (SoundOperator plan dir n) e h
 
-  pub owes-case :
+  pub owes_case :
       (room at : ℕ) (plan dir : List ℕ) (w : World) (ts : List Table) (xs ys : List ℤ) (r : Laid) →
       Owes room at (made_width dir k) (make w (operator_of plan k) ts) xs ys r →
       Owes room at (made_width dir o) (make w (operator_of plan o) ts) xs ys r
-  owes-case room at plan dir w ts xs ys r h =
+  owes_case room at plan dir w ts xs ys r h =
       subst (λ (q : Operator). Owes room at (made_width dir q) (make w (operator_of plan q) ts) xs ys r) (sym e) h
 
 pub listed : (dir : List ℕ) (n top t : ℕ) → ListedTables dir n top → t < n → TableStands dir top t
@@ -93,7 +93,7 @@ module _ (plan dir : List ℕ) (n : ℕ) (before rest : List Placed) (at : ℕ) 
   unfolding SoundOf made_of
   sound_of None e = (tt, sym (no_table plan (widths_of before) f.operator k.width k.stands k.fits e))
   sound_of (Of t u) e =
-      let g = turn-fitting k t u e in
+      let g = turn_fitting k t u e in
       let a : t < n = omega (arith, g.first, number) in
       let b : u < n = omega (arith, g.second, number) in (
         (a, b, rw (← width_is t a, ← width_is u b) g.suited),

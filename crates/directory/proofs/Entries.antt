@@ -15,7 +15,7 @@ use mathlib.Core.Bool.{Bool, true, false}
 use mathlib.Core.Logic.{◌⊎◌, inl, inr, ⊎_elim}
 use borrow.Author.Tests.{ltb-true, ltb-false}
 use lib.Dec.{ltb}
-use Rattle.tables.proofs.Standing.{laid_stands, laid-fits, others_stand, length_stands, flat_rows_at}
+use Rattle.tables.proofs.Standing.{laid_stands, laid_fits, others_stand, length_stands, flat_rows_at}
 use lib.IntN.{ℤ}
 use lib.ListN.{length, get_or, set, take, length-append, length-set, get_or-append}
 use lib.Seq.{get_or-set_same, get_or-set_other, get_or_at, take-add}
@@ -215,7 +215,7 @@ module _ (room at w k : ℕ) (made : Attempt Table) (xs ys : List ℤ) (dir : Li
         table = t;
         made_is = made_is;
         rows_are = length_rows_at ys at k w;
-        fits = laid-fits room at w made xs ys k o;
+        fits = laid_fits room at w made xs ys k o;
         long = length_stands room at w made xs ys k inside o;
         tables = more;
         widths = widths_more dir n s there;

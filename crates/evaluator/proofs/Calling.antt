@@ -1,9 +1,9 @@
 -- What the public call answers, case by case.
---     call-refused       the query check refuses
---     call-unsound       the catalogue check refuses
---     known-accepted     what an accepted catalogue gives the work
---     left-within        the items that are left stand within the lent cells
---     call-concluded     the work is done, or refused
+--     call_refused       the query check refuses
+--     call_unsound       the catalogue check refuses
+--     known_accepted     what an accepted catalogue gives the work
+--     left_within        the items that are left stand within the lent cells
+--     call_concluded     the work is done, or refused
 use Prim.Native.Nat.{ℕ, ◌-◌, ◌≤◌}
 use mathlib.Core.Path.{◌≡◌, refl, sym, ◌∙◌, ap, subst}
 use mathlib.Core.List.{List, [], ◌∷◌}
@@ -52,11 +52,11 @@ zeros n cells =
     let z : n - 0 ≡ n = omega arith in
     ap (λ (m : ℕ). replicate m (pos 0)) z
 
-called-refused :
+called_refused :
     (o : Outcome ℤ) (lent k p : ℕ) (before after : List ℤ) (r : Evaluated) → refusal (pos 0) lent k p ≡ o →
     answered r ≡ refused k p → after ≡ padded (pos 0) lent (take 0 before) → Called o after r
 unfolding refusal
-called-refused o lent k p before after r e a z =
+called_refused o lent k p before after r e a z =
     subst (λ (o : Outcome ℤ). Called o after r) e (a, z ∙ zeros lent before)
 
 -- query, then catalogue, then work
@@ -64,13 +64,13 @@ abbrev catalogued : List ℕ → ℕ → Read → Reading (Work Standing)
 catalogued doc lent r =
     reading (catalogue_read doc) (λ c. reads (evaluate (world_of c) (room lent) (λ v. []) r.tree))
 
-refusing-answer :
+refusing_answer :
     (c : Checked) → OneOf (1 ∷ 2 ∷ 3 ∷ []) (tag_of query-type c) → answered (refusing c) ≡ Decoded.answered c
 unfolding answered refusing Decoded.answered
-refusing-answer (Checked.Records n) h = absurd (miss (1 ∷ 2 ∷ 3 ∷ []) 0 tt h)
-refusing-answer (Checked.Unsound p) h = refl
-refusing-answer (Checked.Excess p) h = refl
-refusing-answer (Checked.Unbound p) h = refl
+refusing_answer (Checked.Records n) h = absurd (miss (1 ∷ 2 ∷ 3 ∷ []) 0 tt h)
+refusing_answer (Checked.Unsound p) h = refl
+refusing_answer (Checked.Excess p) h = refl
+refusing_answer (Checked.Unbound p) h = refl
 
 -- what stands on the stack decides the answer and the cells
 concluded :
@@ -84,18 +84,18 @@ concluded few lent mid after (Stood.Items l k n) f h z =
 concluded few lent mid after (Stood.Full p) f h z = (refl, z ∙ zeros lent mid)
 concluded few lent mid after (Stood.Failed p) f h z = (refl, z ∙ zeros lent mid)
 
-pub left-within :
+pub left_within :
     (few l : ℕ) (cells : List ℤ) (m : Stood) → few ≤ length cells → Fit 0 few m → l ≡ standing m → l ≤ length cells
 unfolding standing
-left-within few l cells (Stood.Items n k e) h f i = omega arith
-left-within few l cells (Stood.Full p) h f i = omega arith
-left-within few l cells (Stood.Failed p) h f i = omega arith
+left_within few l cells (Stood.Items n k e) h f i = omega arith
+left_within few l cells (Stood.Full p) h f i = omega arith
+left_within few l cells (Stood.Failed p) h f i = omega arith
 
-pub known-accepted :
+pub known_accepted :
     (doc : List ℕ) (d : Catalogued) → Answers.answered d ≡ catalogue_call doc → (rows : ℕ) → d ≡ Catalogued.Rows rows →
     Known doc rows
 unfolding catalogue_of
-known-accepted doc d s rows u =
+known_accepted doc d s rows u =
     let g = accepted_sound doc rows (sym (ap Answers.answered u) ∙ s) in
     record { few = g.few; there = omega (arith, g.whole); nested = g.nested }
 
@@ -103,49 +103,49 @@ module _
     (query doc : List ℕ) (before after : List ℤ) (r : Evaluated) (c : Checked)
     (q : Decoded.answered c ≡ query_call query)
   where
-    pub call-refused :
+    pub call_refused :
         OneOf (1 ∷ 2 ∷ 3 ∷ []) (tag_of query-type c) → r ≡ refusing c →
         after ≡ padded (pos 0) (length before) (take 0 before) → Called (evaluate_call query doc (length before)) after r
     unfolding evaluate_call evaluate_outcome reading
-    call-refused h e z =
+    call_refused h e z =
         let (k, p, s, a) = check_refuses query c q h in
-        called-refused _ (length before) k p before after r
+        called_refused _ (length before) k p before after r
         (sym (ap (λ (m : Reading Read). evaluate_outcome (length before) (reading m (catalogued doc (length before))))
         s))
-        (ap answered e ∙ refusing-answer c h ∙ a) z
+        (ap answered e ∙ refusing_answer c h ∙ a) z
 
     module _ (n : ℕ) (h : c ≡ Checked.Records n) (d : Catalogued) (s : Answers.answered d ≡ catalogue_call doc) where
       -- the call, where the query is read
-      called-read :
+      called_read :
           (t : Read) → query_read query ≡ reads t →
           evaluate_outcome (length before) (catalogued doc (length before) t) ≡ evaluate_call query doc (length before)
       unfolding evaluate_call reading
-      called-read t e =
+      called_read t e =
           let lent = length before in
           sym (ap (λ (m : Reading Read). evaluate_outcome lent (reading m (catalogued doc lent))) e)
 
-      pub call-unsound :
+      pub call_unsound :
           (p : ℕ) → d ≡ Catalogued.Unsound p → r ≡ unsounding d →
           after ≡ padded (pos 0) (length before) (take 0 before) →
           Called (evaluate_call query doc (length before)) after r
       unfolding evaluate_outcome reading unsounding answered
-      call-unsound p u e z =
+      call_unsound p u e z =
           let (t, i, j) = check_reads query c q n h in
           let refuses4 = unsound doc p (sym (ap Answers.answered u) ∙ s) in
-          called-refused _ (length before) 4 p before after r
+          called_refused _ (length before) 4 p before after r
           (sym (ap (λ (m : Reading Catalogue). evaluate_outcome (length before)
           (reading m (λ c. reads (evaluate (world_of c) (room (length before)) (λ v. []) t.tree)))) refuses4)
-          ∙ called-read t i)
+          ∙ called_read t i)
           (ap answered (e ∙ ap unsounding u)) z
 
       module _ (rows : ℕ) (u : d ≡ Catalogued.Rows rows) where
-        pub call-concluded :
+        pub call_concluded :
             (few l : ℕ) (mid : List ℤ) (m : Stood) → few ≡ room (length before) → length mid ≡ length before →
             Works (world_of (catalogue_of doc rows)) (parse 32 query 0) 0 few unbound before mid m →
             l ≡ standing m → after ≡ padded (pos 0) (length mid) (take l mid) → r ≡ concluding m →
             Called (evaluate_call query doc (length before)) after r
         unfolding evaluate_outcome reading room
-        call-concluded few l mid m k j g i z e =
+        call_concluded few l mid m k j g i z e =
             let (t, x, y) = check_reads query c q n h in
             let lent = length before in
             let parses = (query_accepted query t x).parses in
@@ -159,7 +159,7 @@ module _
             ap (λ (o : Work Standing). evaluate_outcome lent (reads o)) outcome
             ∙ sym (ap (λ (m : Reading Catalogue). evaluate_outcome lent
             (reading m (λ c. reads (evaluate (world_of c) (room lent) (λ v. []) t.tree)))) sound)
-            ∙ called-read t x in
+            ∙ called_read t x in
             let left : after ≡ padded (pos 0) lent (take (standing m) mid) =
             z ∙ ap (λ (n : ℕ). padded (pos 0) n (take l mid)) j ∙ ap (λ (n : ℕ). padded (pos 0) lent (take n mid)) i in
             subst (λ (o : Outcome ℤ). Called o after r) call

@@ -21,8 +21,8 @@ use Rattle.meaning.specs.World.{axis_holds, on_axis}
 use Rattle.doc_rows.specs.Nested.{Nested}
 use Rattle.doc_rows.proofs.Fragments.{fragment_covered}
 use Rattle.nodesets.specs.Nodes.{ranks}
-use Rattle.nodesets.proofs.Ranks.{any-is}
-use Rattle.forward_axes.proofs.Parents.{parent_over, only-parent}
+use Rattle.nodesets.proofs.Ranks.{any_is}
+use Rattle.forward_axes.proofs.Parents.{parent_over, only_parent}
 use Rattle.step_parts.proofs.Conditions.{on_axis_lem, axis_of_lem, child, child_of}
 
 pub record Opens (level : ℕ → ℕ) (ms : List Bool) (v : ℕ) (opens : List Bool) : Type 0 where
@@ -63,7 +63,7 @@ module _ (c : Catalogue) (n : ℕ) (s : Nested n c.size c.level) (ms : List Bool
       where
         by_level : (l : ℕ) → c.level v ≡ l → get_or opens (c.level v) false ≡ any (λ x. on_axis c Child x v) (ranks n ms)
         by_level zero e =
-            any-is (λ x. on_axis c Child x v) ms n (get_or opens (c.level v) false)
+            any_is (λ x. on_axis c Child x v) ms n (get_or opens (c.level v) false)
             (λ t. clash t (ap (λ k. get_or opens k false) e ∙ o.top))
             (λ x j m a. absurd (omega (arith, (child_of c x v (axis_of_lem c Child x v a)).2)))
         by_level (suc l) e =
@@ -74,7 +74,7 @@ module _ (c : Catalogue) (n : ℕ) (s : Nested n c.size c.level) (ms : List Bool
             let mark : get_or opens (c.level v) false ≡ get_or ms p false =
             ap (λ k. get_or opens k false) over.up
             ∙ o.held p over.early (λ u a b d. omega (arith, over.between u a b)) in
-            any-is (λ x. on_axis c Child x v) ms n (get_or opens (c.level v) false)
+            any_is (λ x. on_axis c Child x v) ms n (get_or opens (c.level v) false)
             (λ t. (
               p,
               p<n,
@@ -84,5 +84,5 @@ module _ (c : Catalogue) (n : ℕ) (s : Nested n c.size c.level) (ms : List Bool
             ))
             (λ x j m a.
             let d = child_of c x v (axis_of_lem c Child x v a) in
-            let same = only-parent n c.size c.level s p x v j over d.0 d.1 d.2 in
+            let same = only_parent n c.size c.level s p x v j over d.0 d.1 d.2 in
             mark ∙ ap (λ y. get_or ms y false) (sym same) ∙ m)

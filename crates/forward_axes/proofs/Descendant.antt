@@ -4,7 +4,7 @@
 --       held                      where `until` is past v, a marked row before v covers all rows from v up to it
 --     until_begin                 at row 0
 --     until_more                  at the next row
---     until-flag                  v is a descendant of a marked row exactly when it is before `until`
+--     until_flag                  v is a descendant of a marked row exactly when it is before `until`
 use Prim.Native.Nat.{ℕ, ◌+◌, ◌≤◌, ◌<◌}
 use mathlib.Core.Path.{◌≡◌, refl, sym, ap, ◌∙◌}
 use mathlib.Core.Logic.{◌⊎◌, inl, inr}
@@ -25,7 +25,7 @@ use Rattle.doc_rows.proofs.Fragments.{fragment_covered}
 use Rattle.step_parts.specs.Steps.{or_self}
 use Rattle.nodesets.specs.Nodes.{ranks}
 use Rattle.nodesets.proofs.Tests.{or_cases, or_left, or_right}
-use Rattle.nodesets.proofs.Ranks.{any-is}
+use Rattle.nodesets.proofs.Ranks.{any_is}
 use Rattle.step_parts.proofs.Conditions.{on_axis_lem, axis_of_lem, fragment_of_lem, descendant, descendant_of}
 
 pub record Until (n : ℕ) (size : ℕ → ℕ) (ms : List Bool) (v until : ℕ) : Type 0 where
@@ -107,13 +107,13 @@ module _ (c : Catalogue) (n : ℕ) (s : Nested n c.size c.level) (ms : List Bool
     flag : ltb v until ≡ any (λ x. on_axis c Descendant x v) (ranks n ms)
     unfolding axis_holds
     flag =
-        any-is (λ x. on_axis c Descendant x v) ms n (ltb v until) (λ t. to_hit (ltb-true v until t))
+        any_is (λ x. on_axis c Descendant x v) ms n (ltb v until) (λ t. to_hit (ltb-true v until t))
         (λ x j m o. from_hit x m (axis_of_lem c Descendant x v o))
 
     flag_or_self : (ltb v until || get_or ms v false) ≡ any (λ x. on_axis c DescendantOrSelf x v) (ranks n ms)
     unfolding axis_holds
     flag_or_self =
-        any-is (λ x. on_axis c DescendantOrSelf x v) ms n (ltb v until || get_or ms v false)
+        any_is (λ x. on_axis c DescendantOrSelf x v) ms n (ltb v until || get_or ms v false)
         (λ t. to (or_cases (ltb v until) (get_or ms v false) t))
         (λ x j m o. from x m (or_cases (eqb x v) (is_descendant c x v) (axis_of_lem c DescendantOrSelf x v o)))
       where
@@ -136,7 +136,7 @@ module _ (c : Catalogue) (n : ℕ) (s : Nested n c.size c.level) (ms : List Bool
         from x m (inl e) = or_right (ltb v until) (ap (λ y. get_or ms y false) (sym (eqb-true x v e)) ∙ m)
         from x m (inr o) = or_left (get_or ms v false) (from_hit x m o)
 
-    pub until-flag :
+    pub until_flag :
         (own : Bool) → (ltb v until || (own && get_or ms v false)) ≡ any (λ x. on_axis c (or_self own) x v) (ranks n ms)
-    until-flag true = flag_or_self
-    until-flag false = or-false (ltb v until) ∙ flag
+    until_flag true = flag_or_self
+    until_flag false = or-false (ltb v until) ∙ flag

@@ -5,7 +5,7 @@
 --       bound                             no such row ends before `least`
 --       held                              where `least` is a rank, such a row ends there
 --     least_begin                         before row 0
---     least-enter                         at row v, which may be the root of the next fragment
+--     least_enter                         at row v, which may be the root of the next fragment
 --     least_more                          past row v
 --     least_flag                          v follows a marked row exactly when it is after `least`
 use Prim.Native.Nat.{ℕ, ◌+◌, ◌≤◌, ◌<◌}
@@ -24,7 +24,7 @@ use Rattle.meaning.specs.Catalogue.{Catalogue}
 use Rattle.meaning.specs.World.{axis_holds, on_axis}
 use Rattle.doc_rows.specs.Nested.{Nested}
 use Rattle.nodesets.specs.Nodes.{ranks}
-use Rattle.nodesets.proofs.Ranks.{any-is}
+use Rattle.nodesets.proofs.Ranks.{any_is}
 use Rattle.step_parts.proofs.Fragments.{Deep, entering, deep_same, same_deep}
 use Rattle.step_parts.proofs.Conditions.{on_axis_lem, axis_of_lem, fragment_of_lem}
 
@@ -41,10 +41,10 @@ module _ (c : Catalogue) (n : ℕ) (s : Nested n c.size c.level) (ms : List Bool
   least_begin = record { bound = λ x h m d. absurd (omega arith); held = λ h. absurd (omega arith) }
 
   module _ (v least : ℕ) (h : v < n) where
-    pub least-enter :
+    pub least_enter :
         Least n c.size c.level ms v v least
         → Least n c.size c.level ms v (v + 1) (entering (c.level v) n least)
-    least-enter l = by_level (eqb (c.level v) 0) refl
+    least_enter l = by_level (eqb (c.level v) 0) refl
       where
         longer : 0 < c.level v → (x : ℕ) → Deep c.level (x + 1) v → Deep c.level (x + 1) (v + 1)
         longer p x d u a b = by_place (ℕ_discrete u v)
@@ -100,7 +100,7 @@ module _ (c : Catalogue) (n : ℕ) (s : Nested n c.size c.level) (ms : List Bool
 
       pub least_flag : ltb least v ≡ any (λ x. on_axis c Following x v) (ranks n ms)
       unfolding axis_holds
-      least_flag = any-is (λ x. on_axis c Following x v) ms n (ltb least v) to_hit from_hit
+      least_flag = any_is (λ x. on_axis c Following x v) ms n (ltb least v) to_hit from_hit
         where
           to_hit : ltb least v ≡ true → (x : ℕ) × (x < n) × (get_or ms x false ≡ true) × (on_axis c Following x v ≡ true)
           to_hit t =

@@ -4,7 +4,7 @@
 --       up                      one level up
 --       between                 every row between them is deeper than p
 --     parent_over               every row below the roots has a parent
---     only-parent               .. and no other
+--     only_parent               .. and no other
 use Prim.Native.Nat.{ℕ, zero, suc, ◌+◌, ◌≤◌, ◌<◌}
 use mathlib.Core.Path.{◌≡◌, ap}
 use mathlib.Core.Logic.{◌⊎◌, inl, inr}
@@ -65,9 +65,9 @@ module _ (n : ℕ) (size level : ℕ → ℕ) (s : Nested n size level) where
         here : (w : ℕ) → w ≡ v → l < level w
         here w k = rw k (omega arith)
 
-  pub only-parent :
+  pub only_parent :
       (p x v : ℕ) → x < n → Over size level p v → x < v → v ≤ x + size x → level v ≡ level x + 1 → x ≡ p
-  only-parent p x v h o a b e = by_order (le_or_lt x p) (le_or_lt p x)
+  only_parent p x v h o a b e = by_order (le_or_lt x p) (le_or_lt p x)
     where
       by_order : (x ≤ p) ⊎ (p < x) → (p ≤ x) ⊎ (x < p) → x ≡ p
       by_order (inl j) (inl k) = omega arith

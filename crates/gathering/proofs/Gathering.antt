@@ -1,6 +1,6 @@
 -- What is asked and owed of each kind of gathering: by cases, and as cells are laid and marks change.
---     suits_count, owes-count ..     what is known of a gathering is known of its case
---     suits-column, suits-wide, suits-long    the column is one; at an equal width; with marks of the same length
+--     suits_count, owes_count ..     what is known of a gathering is known of its case
+--     suits_column, suits_wide, suits_long    the column is one; at an equal width; with marks of the same length
 --     table_kept                     a table below what is laid stands as it did
 --     counts_is, truths_is, steps_is     what the operators are defined to make
 --     counts_settled                 RC never fails
@@ -23,7 +23,7 @@ use Rattle.laws.proofs.Lists.{all_kept}
 use Rattle.laws.specs.Lists.{In}
 use Rattle.laws.proofs.Filters.{all_in, all_of, in_filter, each_map}
 use Rattle.laws.proofs.Booleans.{by_cases, clash, both_true}
-use Rattle.laws.proofs.Rows.{rowsAt-laid}
+use Rattle.laws.proofs.Rows.{rows_at_laid}
 use Rattle.laws.specs.Attempt.{Attempt, fails, gives, attempt}
 use Rattle.meaning.specs.Catalogue.{Catalogue}
 use Rattle.meaning.specs.World.{World, world_of, rank_of, ranks_of, reached, step, truth}
@@ -38,83 +38,83 @@ use Rattle.gathering.specs.declared.Gather.TheVariants.{Count, Truth, Step}
 use Rattle.members.specs.Grouped.{in_front}
 use Rattle.gathering.specs.Gathered.{column_of, gathered, made, whole, Asks}
 use Rattle.stepping.specs.Marking.{is_node}
-use Rattle.gathering.proofs.Turns.{succeeds-each}
+use Rattle.gathering.proofs.Turns.{succeeds_each}
 
 module _ (gather k : Gather) (e : gather ≡ k) where
-  gather-suits :
+  gather_suits :
       (width room : ℕ) (doc : List ℕ) (rows : ℕ) (from to : List Bool) →
       Asks gather width room doc rows from to → Asks k width room doc rows from to
-  gather-suits width room doc rows from to h = subst (λ (g : Gather). Asks g width room doc rows from to) e h
+  gather_suits width room doc rows from to h = subst (λ (g : Gather). Asks g width room doc rows from to) e h
 
-  gather-owes :
+  gather_owes :
       (room at : ℕ) (w : World) (t : Table) (xs ys : List ℤ) (o : Laid) →
       Owes room at 2 (made k w t (in_front t (column_of k))) xs ys o →
       Owes room at 2 (made gather w t (in_front t (column_of gather))) xs ys o
-  gather-owes room at w t xs ys o h =
+  gather_owes room at w t xs ys o h =
       subst (λ (g : Gather). Owes room at 2 (made g w t (in_front t (column_of g))) xs ys o) (sym e) h
 
 module _ (gather : Gather) (width room : ℕ) (doc : List ℕ) (rows : ℕ) (from to : List Bool)
     (h : Asks gather width room doc rows from to) where
   pub suits_count : (c : ℕ) → gather ≡ Count c → (c < width) × (room ≤ 65536)
   unfolding Asks
-  suits_count c e = gather-suits gather (Count c) e width room doc rows from to h
+  suits_count c e = gather_suits gather (Count c) e width room doc rows from to h
 
   pub suits_truth : gather ≡ Truth → width ≡ 3
   unfolding Asks
-  suits_truth e = gather-suits gather Truth e width room doc rows from to h
+  suits_truth e = gather_suits gather Truth e width room doc rows from to h
 
   pub suits_step : (axis : Axis) (test : Test) → gather ≡ Step axis test → (width ≡ 2) × Ready doc rows from to
   unfolding Asks
-  suits_step axis test e = gather-suits gather (Step axis test) e width room doc rows from to h
+  suits_step axis test e = gather_suits gather (Step axis test) e width room doc rows from to h
 
 module _ (gather : Gather) (room at : ℕ) (d : Catalogue) (t : Table) (xs ys : List ℤ) (o : Laid) where
-  pub owes-count :
+  pub owes_count :
       (c : ℕ) → gather ≡ Count c →
       Owes room at 2 (gives ((in_front t c ∷ pos (length (group_of t c (in_front t c))) ∷ []) ∷ [])) xs ys o →
       Owes room at 2 (made gather (world_of d) t (in_front t (column_of gather))) xs ys o
   unfolding made gathered column_of
-  owes-count c e h = gather-owes gather (Count c) e room at (world_of d) t xs ys o h
+  owes_count c e h = gather_owes gather (Count c) e room at (world_of d) t xs ys o h
 
-  pub owes-truth :
+  pub owes_truth :
       gather ≡ Truth →
       Owes room at 2
       (attempt (truth (items_in_order (group_of t 0 (in_front t 0))))
       (λ b. gives ((in_front t 0 ∷ truth_cell b ∷ []) ∷ []))) xs ys o →
       Owes room at 2 (made gather (world_of d) t (in_front t (column_of gather))) xs ys o
   unfolding made gathered column_of world_of
-  owes-truth e h = gather-owes gather Truth e room at (world_of d) t xs ys o h
+  owes_truth e h = gather_owes gather Truth e room at (world_of d) t xs ys o h
 
-  pub owes-step :
+  pub owes_step :
       (axis : Axis) (test : Test) → gather ≡ Step axis test →
       Owes room at 2
       (attempt (step d axis test (column (group_of t 0 (in_front t 0)) 1))
       (λ zs. gives (map (λ y. in_front t 0 ∷ y ∷ []) zs))) xs ys o →
       Owes room at 2 (made gather (world_of d) t (in_front t (column_of gather))) xs ys o
   unfolding made gathered column_of world_of
-  owes-step axis test e h = gather-owes gather (Step axis test) e room at (world_of d) t xs ys o h
+  owes_step axis test e h = gather_owes gather (Step axis test) e room at (world_of d) t xs ys o h
 
-pub suits-column :
+pub suits_column :
     (gather : Gather) (width room : ℕ) (doc : List ℕ) (rows : ℕ) (from to : List Bool) →
     Asks gather width room doc rows from to → column_of gather < width
 unfolding Asks column_of
-suits-column (Count c) width room doc rows from to h = h.0
-suits-column Truth width room doc rows from to h = omega arith
-suits-column (Step axis test) width room doc rows from to h = omega (arith, h.0)
+suits_column (Count c) width room doc rows from to h = h.0
+suits_column Truth width room doc rows from to h = omega arith
+suits_column (Step axis test) width room doc rows from to h = omega (arith, h.0)
 
-pub suits-wide :
+pub suits_wide :
     (gather : Gather) (width wide room : ℕ) (doc : List ℕ) (rows : ℕ) (from to : List Bool) → wide ≡ width →
     Asks gather width room doc rows from to → Asks gather wide room doc rows from to
-suits-wide gather width wide room doc rows from to e h =
+suits_wide gather width wide room doc rows from to e h =
     subst (λ (v : ℕ). Asks gather v room doc rows from to) (sym e) h
 
-pub suits-long :
+pub suits_long :
     (gather : Gather) (width room : ℕ) (doc : List ℕ) (rows : ℕ) (from to old new : List Bool) →
     length old ≡ length from → length new ≡ length to →
     Asks gather width room doc rows from to → Asks gather width room doc rows old new
 unfolding Asks
-suits-long (Count c) width room doc rows from to old new d e h = h
-suits-long Truth width room doc rows from to old new d e h = h
-suits-long (Step axis test) width room doc rows from to old new d e h = (
+suits_long (Count c) width room doc rows from to old new d e h = h
+suits_long Truth width room doc rows from to old new d e h = h
+suits_long (Step axis test) width room doc rows from to old new d e h = (
   h.0,
   record {
     known = h.1.known;
@@ -128,7 +128,7 @@ pub table_kept :
     table_at ys s ≡ table_at xs s
 unfolding table_at Inside
 table_kept xs ys at vs s e h k =
-    ap (λ (l : List ℤ). table_at l s) e ∙ rowsAt-laid xs at vs s.at s.rows s.width h k
+    ap (λ (l : List ℤ). table_at l s) e ∙ rows_at_laid xs at vs s.at s.rows s.width h k
 
 -- what the operators are defined to make
 module _ (w : World) (t : Table) where
@@ -169,15 +169,15 @@ unfolding all
 all_mapped p f [] = refl
 all_mapped p f (x ∷ xs) = ap (p (f x) &&◌) (all_mapped p f xs)
 
-all-skip :
+all_skip :
     {A : Type 0} (p q : A → Bool) → ((x : A) → q x ≡ false → p x ≡ true) → (xs : List A)
     → all p (filter q xs) ≡ all p xs
 unfolding all filter
-all-skip p q h [] = refl
-all-skip p q h (x ∷ xs) =
+all_skip p q h [] = refl
+all_skip p q h (x ∷ xs) =
     by_cases (q x)
-    (λ e. rw (e, all-skip p q h xs))
-    (λ e. rw (e, h x e, all-skip p q h xs))
+    (λ e. rw (e, all_skip p q h xs))
+    (λ e. rw (e, h x e, all_skip p q h xs))
 
 -- what is true of the different cells is true of all
 all_firsts : (p : ℤ → Bool) (xs : List ℤ) → all p (firsts same xs) ≡ all p xs
@@ -187,7 +187,7 @@ all_firsts p (x ∷ xs) =
     by_cases (p x)
     (λ e.
     rw e
-    (all-skip p (λ y. not (same x y)) (λ y d. ap p (sym (same_eq x y (not_not (same x y) d))) ∙ e) (firsts same xs)
+    (all_skip p (λ y. not (same x y)) (λ y d. ap p (sym (same_eq x y (not_not (same x y) d))) ∙ e) (firsts same xs)
     ∙ all_firsts p xs))
     (λ e. rw e)
   where
@@ -259,7 +259,7 @@ module _ (c : Catalogue) where
       succeeds (whole (Step axis test) (world_of c) t) ≡ all (is_node c) (column t 1)
   unfolding whole made gathered column_of world_of groups
   steps_succeed axis test t =
-      succeeds-each (made (Step axis test) (world_of c) t) (groups t 0)
+      succeeds_each (made (Step axis test) (world_of c) t) (groups t 0)
       ∙ ap (λ (p : ℤ → Bool). all p (groups t 0))
       (fun_ext (λ (x : ℤ). step_succeeds axis test x (column (group_of t 0 x) 1)))
       ∙ all_firsts (λ x. all (is_node c) (column (group_of t 0 x) 1)) (column t 0)

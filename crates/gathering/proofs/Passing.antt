@@ -1,8 +1,8 @@
 -- The passes over the rows of a table that meet its groups: laying what is made of them, and testing that it does not
 -- fail.
---     lays_first, lays_more, lays-stopped, lays_end     the rows of the groups are laid behind each other
---     truth-turn                                    a group has a truth exactly where its turn does not fail
---     tests_first, tests_fails, tests-more, tests_end    every turn is tested
+--     lays_first, lays_more, lays_stopped, lays_end     the rows of the groups are laid behind each other
+--     truth_turn                                    a group has a truth exactly where its turn does not fail
+--     tests_first, tests_fails, tests_more, tests_end    every turn is tested
 use Prim.Native.Nat.{ℕ, ◌+◌, ◌*◌, ◌≤◌, ◌<◌}
 use mathlib.Core.Path.{◌≡◌, refl, sym, ap, ◌∙◌, subst}
 use mathlib.Core.List.{List, [], ◌∷◌}
@@ -22,13 +22,13 @@ use Rattle.tables.specs.declared.Laid.TheVariants.{Rows}
 use Rattle.tables.specs.Layout.{Owes}
 use Rattle.tables.specs.Laying.{succeeds, Settled, Laying}
 use Rattle.tables.specs.contracts.Laid.{the_type}
-use Rattle.tables.proofs.Laying.{laying_start, laying-more, laying-stopped, laying_end}
+use Rattle.tables.proofs.Laying.{laying_start, laying_more, laying_stopped, laying_end}
 use Rattle.gathering.specs.declared.Gather.{Gather}
 use Rattle.gathering.specs.declared.Gather.TheVariants.{Truth}
 use Rattle.members.specs.Grouped.{in_front, opening}
 use Rattle.tables.specs.Order.{cell_at}
 use Rattle.gathering.specs.Gathered.{column_of, gathered, made, turn, whole}
-use Rattle.gathering.proofs.Turns.{rest, rest_head, rest_none, rest_whole, succeeds-each, turn-yes}
+use Rattle.gathering.proofs.Turns.{rest, rest_head, rest_none, rest_whole, succeeds_each, turn_yes}
 
 -- what is made of the groups up to row i is laid
 abbrev pub Lays : (room at : ℕ) → Gather → World → Table → (entry : List ℤ) (i : ℕ) (work : List ℤ) (top n : ℕ) → Type 0
@@ -62,45 +62,45 @@ module _ (room at : ℕ) (gather : Gather) (w : World) (t : Table) (entry : List
           (m : ℕ) → Owes room top 2 (turn gather w t i) work next (Rows m) →
           Lays room at gather w t entry (i + 1) next (top + m * 2) (n + m)
       lays_more m o =
-          laying-more room at 2 (λ (o : Attempt Table). o) entry (whole gather w t) work top n (turn gather w t i)
+          laying_more room at 2 (λ (o : Attempt Table). o) entry (whole gather w t) work top n (turn gather w t i)
           (rest gather w t (i + 1)) next inside first m o
 
-      pub lays-stopped :
+      pub lays_stopped :
           (o : Laid) → OneOf (1 ∷ 2 ∷ []) (tag_of the_type o) → Settled (whole gather w t) →
           Owes room top 2 (turn gather w t i) work next o → Owes room at 2 (whole gather w t) entry next o
-      lays-stopped =
-          laying-stopped room at 2 (λ (o : Attempt Table). o) entry (whole gather w t) work top n (turn gather w t i)
+      lays_stopped =
+          laying_stopped room at 2 (λ (o : Attempt Table). o) entry (whole gather w t) work top n (turn gather w t i)
           (rest gather w t (i + 1)) next inside first
 
 -- a group's turn fails where its items have no truth
-pub truth-turn :
+pub truth_turn :
     (c : Catalogue) (t p : Table) (i : ℕ) → opening t 0 i ≡ true → in_front p 0 ≡ cell_at t 0 i →
     group_of p 0 (cell_at t 0 i) ≡ group_of t 0 (cell_at t 0 i) →
     succeeds (truth (items_in_order (group_of p 0 (in_front p 0)))) ≡ succeeds (turn Truth (world_of c) t i)
 unfolding column_of made gathered world_of attempt succeeds
-truth-turn c t p i e d g =
-    sym (ap succeeds (turn-yes Truth (world_of c) t i p e d g)
-    ∙ by-truth (truth (items_in_order (group_of p 0 (in_front p 0)))))
+truth_turn c t p i e d g =
+    sym (ap succeeds (turn_yes Truth (world_of c) t i p e d g)
+    ∙ by_truth (truth (items_in_order (group_of p 0 (in_front p 0)))))
   where
-    by-truth :
+    by_truth :
         (o : Attempt Bool) → succeeds (attempt o (λ b. gives ((in_front p 0 ∷ truth_cell b ∷ []) ∷ []))) ≡ succeeds o
-    by-truth fails = refl
-    by-truth (gives b) = refl
+    by_truth fails = refl
+    by_truth (gives b) = refl
 
 module _ (gather : Gather) (w : World) (t : Table) where
   pub tests_first : all succeeds (rest gather w t 0) ≡ succeeds (whole gather w t)
-  tests_first = sym (ap succeeds (rest_whole gather w t) ∙ succeeds-each (λ (o : Attempt Table). o) (rest gather w t 0))
+  tests_first = sym (ap succeeds (rest_whole gather w t) ∙ succeeds_each (λ (o : Attempt Table). o) (rest gather w t 0))
 
   module _ (i : ℕ) where
     pub tests_fails : i < length t → succeeds (turn gather w t i) ≡ false → all succeeds (rest gather w t i) ≡ false
     unfolding all
     tests_fails h e = ap (all succeeds) (rest_head gather w t i h) ∙ ap (◌&& all succeeds (rest gather w t (i + 1))) e
 
-    pub tests-more :
+    pub tests_more :
         i < length t → succeeds (turn gather w t i) ≡ true →
         all succeeds (rest gather w t i) ≡ all succeeds (rest gather w t (i + 1))
     unfolding all
-    tests-more h e = ap (all succeeds) (rest_head gather w t i h) ∙ ap (◌&& all succeeds (rest gather w t (i + 1))) e
+    tests_more h e = ap (all succeeds) (rest_head gather w t i h) ∙ ap (◌&& all succeeds (rest gather w t (i + 1))) e
 
     pub tests_end : length t ≤ i → all succeeds (rest gather w t i) ≡ true
     unfolding all

@@ -4,9 +4,9 @@
 --     each_turns                all of these are what f makes of the different cells
 --     rest gather w t i         what is made from row i of the table t on
 --     rest_head, rest_none, rest_whole     row i and the others; no row; all rows
---     succeeds-each             attempts one after another succeed where each does
+--     succeeds_each             attempts one after another succeed where each does
 --     settled_yes, failed_no    an attempt that succeeds, and one that does not
---     turn-yes, turn_no         what is made of the group that a row opens, and of none
+--     turn_yes, turn_no         what is made of the group that a row opens, and of none
 use Prim.Native.Nat.{ℕ, suc, ◌+◌, ◌≤◌, ◌<◌}
 use mathlib.Core.Path.{◌≡◌, refl, sym, ap, ap₂, ◌∙◌}
 use mathlib.Core.List.{List, [], ◌∷◌, ◌++◌}
@@ -45,19 +45,19 @@ any_snoc p (y ∷ ys) x = rw (any_snoc p ys x) (grouped (p y) (any p ys) (p x))
     grouped false b c = refl
 
 -- two filters at once
-filter-both :
+filter_both :
     {A :
     Type 0} (p q r : A → Bool) → ((x : A) → r x ≡ (p x && q x)) → (xs : List A)
     → filter p (filter q xs) ≡ filter r xs
 unfolding filter
-filter-both p q r h [] = refl
-filter-both p q r h (x ∷ xs) =
+filter_both p q r h [] = refl
+filter_both p q r h (x ∷ xs) =
     by_cases (q x)
     (λ e.
     by_cases (p x)
-    (λ d. rw (e, d, h x ∙ ap₂ ◌&&◌ d e, filter-both p q r h xs))
-    (λ d. rw (e, d, h x ∙ ap₂ ◌&&◌ d e, filter-both p q r h xs)))
-    (λ e. rw (e, h x ∙ ap (p x &&◌) e ∙ none (p x), filter-both p q r h xs))
+    (λ d. rw (e, d, h x ∙ ap₂ ◌&&◌ d e, filter_both p q r h xs))
+    (λ d. rw (e, d, h x ∙ ap₂ ◌&&◌ d e, filter_both p q r h xs)))
+    (λ e. rw (e, h x ∙ ap (p x &&◌) e ∙ none (p x), filter_both p q r h xs))
   where
     none : (b : Bool) → (b && false) ≡ false
     none true = refl
@@ -90,7 +90,7 @@ module _ (f : ℤ → Attempt Table) where
       let others :
       filter (unseen above) (filter (λ y. not (same x y)) (firsts same xs))
       ≡ filter (unseen (above ++ (x ∷ []))) (firsts same xs) =
-      filter-both (unseen above) (λ y. not (same x y)) (unseen (above ++ (x ∷ []))) (unseen_more above x)
+      filter_both (unseen above) (λ y. not (same x y)) (unseen (above ++ (x ∷ []))) (unseen_more above x)
       (firsts same xs) in
       by_cases (unseen above x)
       (λ e. rw (e, others, each_after (above ++ (x ∷ [])) xs))
@@ -138,19 +138,19 @@ module _ (gather : Gather) (w : World) (t : Table) where
   rest_whole = each_turns (made gather w t) (column t (column_of gather))
 
 -- attempts, one after another
-succeeds-both :
+succeeds_both :
     {B : Type 0} (o u : Attempt (List B)) →
     succeeds (attempt o (λ ys. attempt u (λ zs. gives (ys ++ zs)))) ≡ (succeeds o && succeeds u)
 unfolding succeeds attempt
-succeeds-both fails u = refl
-succeeds-both (gives ys) fails = refl
-succeeds-both (gives ys) (gives zs) = refl
+succeeds_both fails u = refl
+succeeds_both (gives ys) fails = refl
+succeeds_both (gives ys) (gives zs) = refl
 
-pub succeeds-each :
+pub succeeds_each :
     {A B : Type 0} (f : A → Attempt (List B)) (xs : List A) → succeeds (each f xs) ≡ all (λ x. succeeds (f x)) xs
 unfolding each all succeeds
-succeeds-each f [] = refl
-succeeds-each f (x ∷ xs) = succeeds-both (f x) (each f xs) ∙ ap (succeeds (f x) &&◌) (succeeds-each f xs)
+succeeds_each f [] = refl
+succeeds_each f (x ∷ xs) = succeeds_both (f x) (each f xs) ∙ ap (succeeds (f x) &&◌) (succeeds_each f xs)
 
 pub settled_yes : (o : Attempt Table) → succeeds o ≡ true → Settled o
 unfolding succeeds Settled
@@ -168,13 +168,13 @@ module _ (gather : Gather) (w : World) (t : Table) (i : ℕ) where
   turn_no e = rw e
 
   -- p: the part of the table that has all the group's rows
-  pub turn-yes :
+  pub turn_yes :
       (p : Table) → opening t (column_of gather) i ≡ true → in_front p (column_of gather) ≡ cell_at t (column_of gather) i →
       group_of p (column_of gather) (cell_at t (column_of gather) i)
       ≡ group_of t (column_of gather) (cell_at t (column_of gather) i) →
       turn gather w t i ≡ made gather w p (in_front p (column_of gather))
   unfolding turn made
-  turn-yes p e d g =
+  turn_yes p e d g =
       let c = column_of gather in
       ap (λ (b : Bool). cond b (made gather w t (cell_at t c i)) (gives [])) e
       ∙ ap (gathered gather w (cell_at t c i)) (sym g)

@@ -3,7 +3,7 @@
 --     axis_long, step_long, item_long     an axis, a step, a literal
 --     Asked l             a level that an operand is asked at: all but the tightest
 --     text_long           the text of a query has at most 27 bytes a record
---     written-long        the text of an accepted query has at most 3,456 bytes
+--     written_long        the text of an accepted query has at most 3,456 bytes
 use Prim.Native.Nat.{ℕ, suc, ◌+◌, ◌*◌, ◌≤◌}
 use mathlib.Core.Path.{◌≡◌, refl}
 use mathlib.Core.List.{List, [], ◌∷◌, ◌++◌}
@@ -183,9 +183,9 @@ text_long (QX at x t a) l h r =
     rw (path_alone l h)
     (omega (arith, enclosed_none s, length-append (text_of path a) (step_text x t), step_long x t r.0))
 
-pub written-long :
+pub written_long :
     (bs : List ℕ) (r : Read) → Bytes bs → query_read bs ≡ reads r → length (text_of expr r.tree) ≤ 3456
 unfolding rank
-written-long bs r h e =
+written_long bs r h e =
     omega
     (arith, text_long r.tree expr (omega arith) (query_bytes_lem bs r h e).ranged, (accepted bs r e).few)

@@ -1,12 +1,12 @@
 -- Laws of spelled words: the words of a written text are parted by one space, or one of two is a symbol.
---     spells-word, spells_space     one word more; one space more
+--     spells_word, spells_space     one word more; one space more
 --     spelt_word                    a word by itself
---     spelt_heading, spelt-between, spelt_closing     a text behind a beginning; two with words between; one with words
+--     spelt_heading, spelt_between, spelt_closing     a text behind a beginning; two with words between; one with words
 --                                   behind it
 --     signs_apart                   a comma, a slash or a closing parenthesis joins no word before it
 --     for_heading, let_heading, if_heading, count_heading, data-heading, open-heading     the beginnings
 --     comma_between, word_between, then_between       the words between
---     close_closing, step-closing                     the words behind
+--     close_closing, step_closing                     the words behind
 --     truth_spelt, empty_spelt, variable_spelt, root_spelt      the texts without operands
 use Prim.Native.Nat.{ℕ, ◌+◌}
 use mathlib.Core.Path.{◌≡◌, refl, sym, ap, ◌∙◌, subst}
@@ -28,11 +28,11 @@ use Rattle.grammar.specs.Parts.{After, Spelt, Heading, Between, Closing}
 
 -- One word, one space
 
-pub spells-word :
+pub spells_word :
     (k : Kind) (w : Word) (ws : List Word) (u : List ℕ) → joins k (first w.bytes) ≡ false → Spells w.kind ws u →
     Spells k (w ∷ ws) (w.bytes ++ u)
 unfolding Spells
-spells-word k w ws u j h = ([], u, refl, tt, j, h)
+spells_word k w ws u j h = ([], u, refl, tt, j, h)
 
 pub spells_space : (k : Kind) (ws : List Word) (t : List ℕ) → Spells symbol ws t → Spells k ws (32 ∷ t)
 unfolding Spells is_space
@@ -43,7 +43,7 @@ spells_space k (w ∷ ws) t (s, r, e, b, a, h) = (32 ∷ s, r, ap (λ (x : List 
 first_word :
     (w : Word) (ws : List Word) (u : List ℕ) → Spells w.kind ws u → Spells symbol (w ∷ ws) (w.bytes ++ u)
 unfolding joins
-first_word w ws u h = spells-word symbol w ws u refl h
+first_word w ws u h = spells_word symbol w ws u refl h
 
 -- a word, then a space
 word_space : (w : Word) (ws : List Word) (u : List ℕ) → Spells symbol ws u → Spells symbol (w ∷ ws) (w.bytes ++
@@ -75,10 +75,10 @@ spelt_heading {hs} {ps} {m} {t} h p =
           (h.before (ps ++ ws) (t ++ u) (p.before ws u a)));
     }
 
-pub spelt-between :
+pub spelt_between :
     {cs ps qs : List Word} {m t s : List ℕ} → Between cs m → Spelt ps t → Spelt qs s →
     Spelt (ps ++ (cs ++ qs)) (t ++ (m ++ s))
-spelt-between {cs} {ps} {qs} {m} {t} {s} c p q =
+spelt_between {cs} {ps} {qs} {m} {t} {s} c p q =
     record {
       before = λ ws u a.
           subst (λ (x : List Word). Spells symbol x ((t ++ (m ++ s)) ++ u))
@@ -125,11 +125,11 @@ if_heading = record { before = λ ws u h. word_space if_word _ _ (first_word ope
 -- an opening parenthesis joins no word before it
 open_after : (k : Kind) (ws : List Word) (u : List ℕ) → Spells symbol ws u → Spells k (open_sign ∷ ws) (40 ∷ u)
 unfolding is_letter is_digit first
-open_after k ws u h = spells-word k open_sign ws u (signs_apart k 40 refl) h
+open_after k ws u h = spells_word k open_sign ws u (signs_apart k 40 refl) h
 
 close_after : (k : Kind) (ws : List Word) (u : List ℕ) → Spells symbol ws u → Spells k (close_sign ∷ ws) (41 ∷ u)
 unfolding is_letter is_digit first
-close_after k ws u h = spells-word k close_sign ws u (signs_apart k 41 refl) h
+close_after k ws u h = spells_word k close_sign ws u (signs_apart k 41 refl) h
 
 pub count_heading : Heading (count_word ∷ open_sign ∷ []) count_head
 count_heading = record { before = λ ws u h. first_word count_word _ _ (open_after word ws u h) }
@@ -147,7 +147,7 @@ unfolding is_letter is_digit first
 comma_between =
     record {
       before = λ ws u h k.
-          spells-word k comma_sign ws (32 ∷ u) (signs_apart k 44 refl) (spells_space symbol ws u h);
+          spells_word k comma_sign ws (32 ∷ u) (signs_apart k 44 refl) (spells_space symbol ws u h);
     }
 
 pub word_between : (w : Word) → Between (w ∷ []) (spaced w)
@@ -180,20 +180,20 @@ test_spelt element = spelt_word star_sign
 test_spelt text_node = record { before = λ ws u h. first_word text_word _ _ (both_after word ws u h) }
 test_spelt (named n small) = spelt_word (name_word n)
 
-pub step-closing :
+pub step_closing :
     (x : Axis) (t : NodeTest) →
     Closing (slash_sign ∷ axis_word x ∷ axis_sign ∷ node_test_words t) (step_text x (tested t))
 unfolding is_letter is_digit first step_text
-step-closing x t =
+step_closing x t =
     record {
       before = λ ws u h k.
           let test = (test_spelt t).before ws u h in
           let axis : Spells symbol (axis_word x ∷ axis_sign ∷ (node_test_words t ++ ws)) ((axis_word x).bytes ++
           (58 ∷ 58 ∷ (test_text (tested t) ++ u))) =
           first_word (axis_word x) _ (58 ∷ 58 ∷ (test_text (tested t) ++ u))
-          (spells-word (axis_word x).kind axis_sign _ _ (signs_apart (axis_word x).kind 58 refl) test)
+          (spells_word (axis_word x).kind axis_sign _ _ (signs_apart (axis_word x).kind 58 refl) test)
           in
-          spells-word k slash_sign _ _ (signs_apart k 47 refl)
+          spells_word k slash_sign _ _ (signs_apart k 47 refl)
           (subst (Spells symbol (axis_word x ∷ axis_sign ∷ (node_test_words t ++ ws)))
           (sym (append_assoc (axis_word x).bytes (58 ∷ 58 ∷ test_text (tested t)) u)) axis);
     }

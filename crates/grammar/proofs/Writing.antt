@@ -1,11 +1,11 @@
 -- What a query is written as is in the grammar, and read as the query's records.
 --     loosened            a part of a tighter level is a part of a looser one
---     enclosed-writes     parentheses where the level that is asked for is tighter
---     integer_writes, comma-writes, ..     a production each: from its operands' texts to its own
+--     enclosed_writes     parentheses where the level that is asked for is tighter
+--     integer_writes, comma_writes, ..     a production each: from its operands' texts to its own
 --     item_writes         a literal, by the item that its cell holds
 --     writes              the text of a query is a part of the level that is asked for
---     written-typed       the text of an accepted query is in the grammar, and read as the query's bytes
---     written-call        .. so the reader's call on it, with enough lent, gives those bytes back
+--     written_typed       the text of an accepted query is in the grammar, and read as the query's bytes
+--     written_call        .. so the reader's call on it, with enough lent, gives those bytes back
 use Prim.Native.Nat.{ℕ, zero, suc, ◌+◌, ◌-◌, ◌≤◌, ◌<◌}
 use mathlib.Core.Path.{◌≡◌, refl, sym, ap, ap₂, ◌∙◌, subst}
 use mathlib.Core.List.{List, [], ◌∷◌, ◌++◌, append-nil}
@@ -51,9 +51,9 @@ use Rattle.grammar.specs.Written.{if_head, then_text, count_head, data_head, roo
 use Rattle.grammar.specs.Encoded.{item_record, query_bytes, Plain, Ranged}
 use Rattle.grammar.specs.Parts.{Spelt, Writes}
 use Rattle.grammar.proofs.Decimals.{numeral}
-use Rattle.grammar.proofs.Spelling.{spelt_word, spelt_heading, spelt-between, spelt_closing, for_heading}
+use Rattle.grammar.proofs.Spelling.{spelt_word, spelt_heading, spelt_between, spelt_closing, for_heading}
 use Rattle.grammar.proofs.Spelling.{let_heading, if_heading, count_heading, data-heading, open-heading}
-use Rattle.grammar.proofs.Spelling.{comma_between, word_between, then_between, close_closing, step-closing}
+use Rattle.grammar.proofs.Spelling.{comma_between, word_between, then_between, close_closing, step_closing}
 use Rattle.grammar.proofs.Spelling.{truth_spelt, empty_spelt, variable_spelt, root_spelt}
 use Rattle.grammar.proofs.Covering.{query_bytes_lem}
 
@@ -187,11 +187,11 @@ module _ {d : ℕ} {bs t : List ℕ} where
         spelt = spelt_heading open-heading (spelt_closing close_closing w.spelt);
       }
 
-pub enclosed-writes :
+pub enclosed_writes :
     {bs t : List ℕ} (own l : Level) (d : ℕ) → 1 ≤ d → ((e : ℕ) → d ≤ suc e → Writes own e bs t) →
     Writes l d bs (enclosed (looser own l) t)
 unfolding enclosed
-enclosed-writes {bs} {t} own l d some w = go d some w (looser own l) refl
+enclosed_writes {bs} {t} own l d some w = go d some w (looser own l) refl
   where
     go :
         (d : ℕ) → 1 ≤ d → ((e : ℕ) → d ≤ suc e → Writes own e bs t) → (b : Bool) → looser own l ≡ b →
@@ -253,45 +253,45 @@ module _ {d : ℕ} where
       record { part = variable u; meant = refl; spelt = variable_spelt u }
 
 module _ {d : ℕ} {xs ys t u : List ℕ} where
-  comma-writes :
+  comma_writes :
       Writes expr d xs t → Writes single d ys u → Writes expr d (record_qs ++ (xs ++ ys)) (t ++ (comma_text ++ u))
   unfolding words records
-  comma-writes a b =
+  comma_writes a b =
       record {
         part = comma a.part b.part;
         meant = ap₂ (λ (x y : List ℕ). record_qs ++ (x ++ y)) a.meant b.meant;
-        spelt = spelt-between comma_between a.spelt b.spelt;
+        spelt = spelt_between comma_between a.spelt b.spelt;
       }
 
-  for-writes :
+  for_writes :
       (v : ℕ) → v < 8 → Writes single d xs t → Writes single d ys u →
       Writes single d (record_qf v ++ (xs ++ ys)) (for_head v ++ (t ++ (spaced return_word ++ u)))
   unfolding words records
-  for-writes v small a b =
+  for_writes v small a b =
       let w : Var = record { number = v; small = small } in
       record {
         part = for_in w a.part b.part;
         meant = ap₂ (λ (x y : List ℕ). record_qf v ++ (x ++ y)) a.meant b.meant;
-        spelt = spelt_heading (for_heading w) (spelt-between (word_between return_word) a.spelt b.spelt);
+        spelt = spelt_heading (for_heading w) (spelt_between (word_between return_word) a.spelt b.spelt);
       }
 
-  let-writes :
+  let_writes :
       (v : ℕ) → v < 8 → Writes single d xs t → Writes single d ys u →
       Writes single d (record_qt v ++ (xs ++ ys)) (let_head v ++ (t ++ (spaced return_word ++ u)))
   unfolding words records
-  let-writes v small a b =
+  let_writes v small a b =
       let w : Var = record { number = v; small = small } in
       record {
         part = let_be w a.part b.part;
         meant = ap₂ (λ (x y : List ℕ). record_qt v ++ (x ++ y)) a.meant b.meant;
-        spelt = spelt_heading (let_heading w) (spelt-between (word_between return_word) a.spelt b.spelt);
+        spelt = spelt_heading (let_heading w) (spelt_between (word_between return_word) a.spelt b.spelt);
       }
 
-  if-writes :
+  if_writes :
       {zs c : List ℕ} → Writes expr d zs c → Writes single d xs t → Writes single d ys u →
       Writes single d (record_qi ++ (zs ++ (xs ++ ys))) (if_head ++ (c ++ (then_text ++ (t ++ (spaced else_word ++ u)))))
   unfolding words records
-  if-writes {zs} c a b =
+  if_writes {zs} c a b =
       record {
         part = if_then c.part a.part b.part;
         meant =
@@ -299,52 +299,52 @@ module _ {d : ℕ} {xs ys t u : List ℕ} where
             (ap₂ (λ (x y : List ℕ). x ++ y) a.meant b.meant);
         spelt =
             spelt_heading if_heading
-            (spelt-between then_between c.spelt (spelt-between (word_between else_word) a.spelt b.spelt));
+            (spelt_between then_between c.spelt (spelt_between (word_between else_word) a.spelt b.spelt));
       }
 
-  compared-writes :
+  compared_writes :
       (o : Comparer) → Writes additive d xs t → Writes additive d ys u →
       Writes comparison d (record_qo (compares o) ++ (xs ++ ys)) (t ++ (spaced (comparer_word o) ++ u))
   unfolding words records
-  compared-writes o a b =
+  compared_writes o a b =
       record {
         part = compared o a.part b.part;
         meant = ap₂ (λ (x y : List ℕ). record_qo (compares o) ++ (x ++ y)) a.meant b.meant;
-        spelt = spelt-between (word_between (comparer_word o)) a.spelt b.spelt;
+        spelt = spelt_between (word_between (comparer_word o)) a.spelt b.spelt;
       }
 
-  added-writes :
+  added_writes :
       (o : Adder) → Writes additive d xs t → Writes multiplicative d ys u →
       Writes additive d (record_qo (adds o) ++ (xs ++ ys)) (t ++ (spaced (adder_word o) ++ u))
   unfolding words records
-  added-writes o a b =
+  added_writes o a b =
       record {
         part = added o a.part b.part;
         meant = ap₂ (λ (x y : List ℕ). record_qo (adds o) ++ (x ++ y)) a.meant b.meant;
-        spelt = spelt-between (word_between (adder_word o)) a.spelt b.spelt;
+        spelt = spelt_between (word_between (adder_word o)) a.spelt b.spelt;
       }
 
-  multiplied-writes :
+  multiplied_writes :
       (o : Multiplier) → Writes multiplicative d xs t → Writes path d ys u →
       Writes multiplicative d (record_qo (multiplies o) ++ (xs ++ ys)) (t ++ (spaced (multiplier_word o) ++ u))
   unfolding words records
-  multiplied-writes o a b =
+  multiplied_writes o a b =
       record {
         part = multiplied o a.part b.part;
         meant = ap₂ (λ (x y : List ℕ). record_qo (multiplies o) ++ (x ++ y)) a.meant b.meant;
-        spelt = spelt-between (word_between (multiplier_word o)) a.spelt b.spelt;
+        spelt = spelt_between (word_between (multiplier_word o)) a.spelt b.spelt;
       }
 
   -- by the function
-  applied-writes :
+  applied_writes :
       (f : Function) → Writes (left_level f) d xs t → Writes (right_level f) d ys u →
       Writes (function_level f) d (record_qo f ++ (xs ++ ys)) (t ++ (spaced (function_word f) ++ u))
-  applied-writes Add a b = added-writes plus a b
-  applied-writes Subtract a b = added-writes minus a b
-  applied-writes Multiply a b = multiplied-writes times a b
-  applied-writes Divide a b = multiplied-writes idiv a b
-  applied-writes Equal a b = compared-writes eq a b
-  applied-writes Less a b = compared-writes lt a b
+  applied_writes Add a b = added_writes plus a b
+  applied_writes Subtract a b = added_writes minus a b
+  applied_writes Multiply a b = multiplied_writes times a b
+  applied_writes Divide a b = multiplied_writes idiv a b
+  applied_writes Equal a b = compared_writes eq a b
+  applied_writes Less a b = compared_writes lt a b
 
 module _ {d : ℕ} {xs t : List ℕ} where
   count_writes : Writes single d xs t → Writes primary d (record_qc ++ xs) (count_head ++ (t ++ (41 ∷ [])))
@@ -365,25 +365,25 @@ module _ {d : ℕ} {xs t : List ℕ} where
         spelt = spelt_heading data-heading (spelt_closing close_closing a.spelt);
       }
 
-  stepped-writes :
+  stepped_writes :
       (x : Axis) (k : NodeTest) → Writes path d xs t →
       Writes path d (record_qx x (tested k) ++ xs) (t ++ step_text x (tested k))
   unfolding words records
-  stepped-writes x k a =
+  stepped_writes x k a =
       record {
         part = stepped a.part x k;
         meant = ap (λ (y : List ℕ). record_qx x (tested k) ++ y) a.meant;
-        spelt = spelt_closing (step-closing x k) a.spelt;
+        spelt = spelt_closing (step_closing x k) a.spelt;
       }
 
-  step-writes :
+  step_writes :
       (x : Axis) (k : Test) → test_name k ≤ 65535 → Writes path d xs t → Writes path d (record_qx x k ++ xs) (t ++
       step_text x k)
   unfolding test_name
-  step-writes x AnyNode small a = stepped-writes x any_node a
-  step-writes x Element small a = stepped-writes x element a
-  step-writes x Text small a = stepped-writes x text_node a
-  step-writes x (Named n) small a = stepped-writes x (named n small) a
+  step_writes x AnyNode small a = stepped_writes x any_node a
+  step_writes x Element small a = stepped_writes x element a
+  step_writes x Text small a = stepped_writes x text_node a
+  step_writes x (Named n) small a = stepped_writes x (named n small) a
 
 -- A literal, by the item that its cell holds
 
@@ -423,35 +423,35 @@ writes (QE at) l d h r = from_primary l empty_writes
 writes (QR at k) l d h r = from_primary l (root_writes k r.0 r.1)
 writes (QV at v) l d h r = from_primary l (variable_writes v r)
 writes (QS at a b) l d h r =
-    enclosed-writes expr l d (omega (arith, depth_some a))
-    (λ e g. comma-writes (writes a expr e (omega arith) r.0) (writes b single e (omega arith) r.1))
+    enclosed_writes expr l d (omega (arith, depth_some a))
+    (λ e g. comma_writes (writes a expr e (omega arith) r.0) (writes b single e (omega arith) r.1))
 writes (QT at v a b) l d h r =
-    enclosed-writes single l d (omega (arith, depth_some a))
+    enclosed_writes single l d (omega (arith, depth_some a))
     (λ e g.
-    let-writes v r.0 (writes a single e (omega arith) r.1) (writes b single e (omega arith) r.2))
+    let_writes v r.0 (writes a single e (omega arith) r.1) (writes b single e (omega arith) r.2))
 writes (QF at v a b) l d h r =
-    enclosed-writes single l d (omega (arith, depth_some a))
+    enclosed_writes single l d (omega (arith, depth_some a))
     (λ e g.
-    for-writes v r.0 (writes a single e (omega arith) r.1) (writes b single e (omega arith) r.2))
+    for_writes v r.0 (writes a single e (omega arith) r.1) (writes b single e (omega arith) r.2))
 writes (QI at c a b) l d h r =
-    enclosed-writes single l d (omega (arith, depth_some c))
+    enclosed_writes single l d (omega (arith, depth_some c))
     (λ e g.
-    if-writes (writes c expr e (omega arith) r.0) (writes a single e (omega arith) r.1)
+    if_writes (writes c expr e (omega arith) r.0) (writes a single e (omega arith) r.1)
     (writes b single e (omega arith) r.2))
 writes (QO at f a b) l d h r =
-    enclosed-writes (function_level f) l d (omega (arith, depth_some a))
+    enclosed_writes (function_level f) l d (omega (arith, depth_some a))
     (λ e g.
-    applied-writes f (writes a (left_level f) e (omega arith) r.0) (writes b (right_level f) e (omega arith) r.1))
+    applied_writes f (writes a (left_level f) e (omega arith) r.0) (writes b (right_level f) e (omega arith) r.1))
 writes (QC at a) l d h r = from_primary l (count_writes (writes a single d (omega arith) r))
 writes (QD at a) l d h r = from_primary l (data-writes (writes a single d (omega arith) r))
 writes (QX at x t a) l d h r =
-    enclosed-writes path l d (omega (arith, depth_some a))
-    (λ e g. step-writes x t r.0 (writes a path e (omega arith) r.1))
+    enclosed_writes path l d (omega (arith, depth_some a))
+    (λ e g. step_writes x t r.0 (writes a path e (omega arith) r.1))
 
-pub written-typed :
+pub written_typed :
     (bs : List ℕ) (r : Read) → Bytes bs → query_read bs ≡ reads r → Typed (text_of expr r.tree) bs
 unfolding Spells
-written-typed bs r h e =
+written_typed bs r h e =
     let c = query_bytes_lem bs r h e in
     let w = writes r.tree expr 32 (omega (arith, (accepted bs r e).nested)) c.ranged in
     record {
@@ -463,10 +463,10 @@ written-typed bs r h e =
           (w.spelt.before [] [] (λ k. tt)));
     }
 
-pub written-call :
+pub written_call :
     (bs : List ℕ) (r : Read) (lent : ℕ) → Bytes bs → query_read bs ≡ reads r → length bs ≤ lent →
     TypedCall (text_of expr r.tree) lent
     (record { answer = gives (r.records ∷ length bs ∷ []); left = padded 0 lent bs })
 unfolding records_outcome
-written-call bs r lent h e l =
-    inside bs (written-typed bs r h e) (sym (ap (records_outcome lent bs) e ∙ rw (le-leb (length bs) lent l)))
+written_call bs r lent h e l =
+    inside bs (written_typed bs r h e) (sym (ap (records_outcome lent bs) e ∙ rw (le-leb (length bs) lent l)))

@@ -81,11 +81,11 @@ module _ (doc : List ℕ) (rows r : ℕ) where
   unfolding text_value catalogue_of provided kind_at
   text_other k h e f = rw (lt-ltb r rows h, ← e, ne_eqb k 3 f)
 
-  pub text-is :
+  pub text_is :
       (k : ℕ) (z : ℤ) → r < rows → k ≡ kind_at doc r → k ≡ 3 → z ≡ prop_at doc r →
       gives z ≡ text_value (catalogue_of doc rows) r
   unfolding text_value catalogue_of provided kind_at prop_at
-  text-is k z h e f p = rw (lt-ltb r rows h, ← e, eq-eqb k 3 f) (ap gives p)
+  text_is k z h e f p = rw (lt-ltb r rows h, ← e, eq-eqb k 3 f) (ap gives p)
 
 pub truth_is : (i k : Item) (b d : Bool) → i ≡ k → b ≡ d → truth_of k d ≡ truth_of i b
 truth_is i k b d e h = cc

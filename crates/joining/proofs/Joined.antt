@@ -1,8 +1,8 @@
 -- Rows of two tables joined (RJ).
---     pair-test            the test, made on the cells
---     pair_full, pair-laid the two rows laid behind each other
+--     pair_test            the test, made on the cells
+--     pair_full, pair_laid the two rows laid behind each other
 --     each_join            each row of a table, where it joins
---     join-same            rows that stand below what is laid are joined as they were
+--     join_same            rows that stand below what is laid are joined as they were
 use Prim.Native.Nat.{ℕ, ◌+◌, ◌≤◌, ◌<◌}
 use mathlib.Core.Path.{◌≡◌, refl, sym, ap, ap₂, ◌∙◌}
 use mathlib.Core.List.{List, [], ◌∷◌, ◌++◌, map}
@@ -22,10 +22,10 @@ use Rattle.joining.specs.Joined.{join_one}
 use Rattle.tables.proofs.Promise.{one_full, one_laid}
 use Rattle.tables.proofs.Reading.{cell_read}
 
-pub pair-test :
+pub pair_test :
     (xs : List ℤ) (a w k b v d : ℕ) (t : Bool) → k < w → d < v →
     t ≡ same (get_or xs (a + k) (pos 0)) (get_or xs (b + d) (pos 0)) → same (cell (row xs a w) k) (cell (row xs b v) d) ≡ t
-pair-test xs a w k b v d t h i e = ap₂ same (cell_read xs a w k h) (cell_read xs b v d i) ∙ sym e
+pair_test xs a w k b v d t h i e = ap₂ same (cell_read xs a w k h) (cell_read xs b v d i) ∙ sym e
 
 module _ (room at a w b v : ℕ) (xs : List ℤ) (insideA : a + w ≤ at) (insideB : b + v ≤ at)
     (inside : at ≤ length xs) where
@@ -37,11 +37,11 @@ module _ (room at a w b v : ℕ) (xs : List ℤ) (insideA : a + w ≤ at) (insid
   pub pair_full : room < at + (w + v) → Owes room at (w + v) (gives ((row xs a w ++ row xs b v) ∷ [])) xs xs Full
   pair_full h = one_full room at (w + v) (row xs a w ++ row xs b v) xs length_pair h
 
-  pub pair-laid :
+  pub pair_laid :
       (ys zs : List ℤ) → at + (w + v) ≤ room → room ≤ length xs →
       ys ≡ laid xs at (row xs a w) → zs ≡ laid ys (at + w) (row ys b v) →
       Owes room at (w + v) (gives ((row xs a w ++ row xs b v) ∷ [])) xs zs (Rows 1)
-  pair-laid ys zs h g e f =
+  pair_laid ys zs h g e f =
       let r = row xs a w in
       let long : length r ≡ w = length_row xs a w (omega arith) in
       let below : row ys b v ≡ row xs b v = ap (λ (l : List ℤ). row l b v) e ∙ row_laid xs at r b v insideB inside in
@@ -65,11 +65,11 @@ each_join r k d (q ∷ t) = rw (each_join r k d t) (by_test (same (cell r k) (ce
     by_test true = refl
     by_test false = refl
 
-pub join-same :
+pub join_same :
     (xs ys : List ℤ) (at : ℕ) (vs : List ℤ) (a w k b v d : ℕ) → ys ≡ laid xs at vs → a + w ≤ at → b + v ≤ at
     → at ≤ length xs →
     join_one (row xs a w) k d (row xs b v) ≡ join_one (row ys a w) k d (row ys b v)
-join-same xs ys at vs a w k b v d e h i g =
+join_same xs ys at vs a w k b v d e h i g =
     ap₂ (λ (r q : Row). join_one r k d q)
     (sym (row_laid xs at vs a w h g) ∙ ap (λ (l : List ℤ). row l a w) (sym e))
     (sym (row_laid xs at vs b v i g) ∙ ap (λ (l : List ℤ). row l b v) (sym e))

@@ -60,4 +60,4 @@ pub joined_part : (xs : List ℤ) (u : Stand) (d : ℕ) (p : Part) (r : Row) (c 
     (map (λ (q : Row). r ++ q)
     (filter (λ (q : Row). same (cell r c) (cell q d))
     (rows_at xs (u.at + p.start * u.width) (p.end - p.start) u.width))))
-joined_part xs u d p r c h = ap (λ (t : Table). gives (map (λ (q : Row). r ++ q) t)) h.joins-alike
+joined_part xs u d p r c h = ap (λ (t : Table). gives (map (λ (q : Row). r ++ q) t)) h.joins_alike

@@ -1,8 +1,8 @@
 -- The first item of a group by least column 1, then earliest row, and the truth that it decides (RE, rule QI).
---     least_more, least-end      row by row
+--     least_more, least_end      row by row
 --     sort_first                 the sort by column 1 begins with the least row
---     truth-of                   truth looks at the first item, and whether there are more
---     group-truth-is             the truth of a group's items
+--     truth_of_lem                   truth looks at the first item, and whether there are more
+--     group_truth_is             the truth of a group's items
 use Prim.Native.Nat.{ℕ, suc, ◌+◌, ◌≤◌, ◌<◌}
 use mathlib.Core.Path.{◌≡◌, refl, sym, ap, ap₂, ◌∙◌, subst}
 use mathlib.Core.List.{List, [], ◌∷◌}
@@ -26,7 +26,7 @@ use Rattle.members.specs.Grouped.{in_front}
 use Rattle.judging.specs.Foremost.{least}
 use Rattle.tables.specs.Order.{cell_at}
 use Rattle.tables.proofs.Reading.{get_d_column, length_column}
-use Rattle.members.proofs.Members.{group-yes, group-no, group_none, group-front}
+use Rattle.members.proofs.Members.{group_yes, group_no, group_none, group_front}
 
 module _ (t : Table) (x : ℤ) (i best next : ℕ)
     (e : next ≡ cond (same x (cell_at t 0 i)) (cond (before (cell_at t 1 i) (cell_at t 1 best)) i best) best) where
@@ -38,12 +38,12 @@ module _ (t : Table) (x : ℤ) (i best next : ℕ)
   least_more h =
       by_cases (same x (cell_at t 0 i))
       (λ d.
-      ap (least (get_or t best [])) (group-yes t 0 x i h d)
+      ap (least (get_or t best [])) (group_yes t 0 x i h d)
       ∙ ap (λ (r : Row). least r (group_of (drop (i + 1) t) 0 x)) (taken (before (cell_at t 1 i) (cell_at t 1 best)))
       ∙ ap (λ (j : ℕ). least (get_or t j []) (group_of (drop (i + 1) t) 0 x))
       (sym (e ∙ ap (λ (b : Bool). cond b (cond (before (cell_at t 1 i) (cell_at t 1 best)) i best) best) d)))
       (λ d.
-      ap (least (get_or t best [])) (group-no t 0 x i h d)
+      ap (least (get_or t best [])) (group_no t 0 x i h d)
       ∙ ap (λ (j : ℕ). least (get_or t j []) (group_of (drop (i + 1) t) 0 x))
       (sym (e ∙ ap (λ (b : Bool). cond b (cond (before (cell_at t 1 i) (cell_at t 1 best)) i best) best) d)))
     where
@@ -60,11 +60,11 @@ module _ (t : Table) (x : ℤ) (i best next : ℕ)
       go true false = k
       go false b = k
 
-pub least-end :
+pub least_end :
     (t : Table) (x : ℤ) (i best : ℕ) (r : Row) → length t ≤ i → least (get_or t best []) (group_of (drop i t) 0 x) ≡ r →
     get_or t best [] ≡ r
 unfolding least
-least-end t x i best r h e = sym (ap (least (get_or t best [])) (group_none t 0 x i h)) ∙ e
+least_end t x i best r h e = sym (ap (least (get_or t best [])) (group_none t 0 x i h)) ∙ e
 
 abbrev comes : Row → Row → Bool
 comes r q = rising (1 ∷ []) r q
@@ -119,13 +119,13 @@ sort_first r (q ∷ g) =
     ∙ ap (λ (b : Bool). get_or (insert comes (cond b q r) (sort comes g)) 0 []) (comes_is q r)
     ∙ sort_first (cond (before (cell q 1) (cell r 1)) q r) g
 
-pub truth-of :
+pub truth_of_lem :
     (xs : List ℤ) → 0 < length xs →
     truth (get_or xs 0 (pos 0) ∷ cond (eqb (length xs) 1) [] (get_or xs 0 (pos 0) ∷ [])) ≡ truth xs
 unfolding truth truth_from
-truth-of [] h = absurd (omega arith)
-truth-of (x ∷ []) h = refl
-truth-of (x ∷ y ∷ ys) h = rw (ne_eqb (suc (suc (length ys))) 1 (λ e. omega arith)) (go (held x))
+truth_of_lem [] h = absurd (omega arith)
+truth_of_lem (x ∷ []) h = refl
+truth_of_lem (x ∷ y ∷ ys) h = rw (ne_eqb (suc (suc (length ys))) 1 (λ e. omega arith)) (go (held x))
   where
     go : (h : Held) → truth_from h (x ∷ []) ≡ truth_from h (y ∷ ys)
     go (Held.Item (Node r)) = refl
@@ -137,21 +137,21 @@ module _ (t : Table) (some : 0 < length t) where
   abbrev group : Table
   group = group_of t 0 (in_front t 0)
 
-  pub group-truth-is :
+  pub group_truth_is :
       (first n : ℕ) (item : ℤ) (alone : Bool) →
       get_or t first [] ≡ least (get_or t 0 []) (group_of (drop 1 t) 0 (in_front t 0)) → n ≡ length group →
       item ≡ cell_at t 2 first → alone ≡ eqb n 1 →
       truth (item ∷ cond alone [] (item ∷ [])) ≡ truth (items_in_order group)
   unfolding items_in_order
-  group-truth-is first n item alone d e f g =
+  group_truth_is first n item alone d e f g =
       let items : List ℤ = column (sort comes group) 2 in
       let long : length items ≡ length group = length_column (sort comes group) 2 ∙ length_sort comes group in
-      let one : 0 < length group = omega (arith, ap length (group-front t 0 some)) in
+      let one : 0 < length group = omega (arith, ap length (group_front t 0 some)) in
       let head : get_or (sort comes group) 0 [] ≡ get_or t first [] =
-      ap (λ (u : Table). get_or (sort comes u) 0 []) (group-front t 0 some)
+      ap (λ (u : Table). get_or (sort comes u) 0 []) (group_front t 0 some)
       ∙ sort_first (get_or t 0 []) (group_of (drop 1 t) 0 (in_front t 0))
       ∙ sym d in
       let here : item ≡ get_or items 0 (pos 0) =
       f ∙ ap (λ (r : Row). cell r 2) (sym head) ∙ sym (get_d_column (sort comes group) 2 0) in
       let many : alone ≡ eqb (length items) 1 = g ∙ ap (λ (k : ℕ). eqb k 1) (e ∙ sym long) in
-      ap₂ (λ (z : ℤ) (b : Bool). truth (z ∷ cond b [] (z ∷ []))) here many ∙ truth-of items (omega arith)
+      ap₂ (λ (z : ℤ) (b : Bool). truth (z ∷ cond b [] (z ∷ []))) here many ∙ truth_of_lem items (omega arith)

@@ -92,10 +92,10 @@ module _ {A B : Type 0} where
   all_mapped P f [] h = tt
   all_mapped P f (x ∷ xs) h = (h.0, all_mapped P f xs h.1)
 
-  pub rising-mapped :
+  pub rising_mapped :
       (R : B → B → Type 0) (f : A → B) (xs : List A) → Rising (λ x y. R (f x) (f y)) xs → Rising R (map f xs)
-  rising-mapped R f [] h = tt
-  rising-mapped R f (x ∷ xs) h = (all_mapped (R (f x)) f xs h.0, rising-mapped R f xs h.1)
+  rising_mapped R f [] h = tt
+  rising_mapped R f (x ∷ xs) h = (all_mapped (R (f x)) f xs h.0, rising_mapped R f xs h.1)
 
 pub all_below : (n : ℕ) → All (λ k. k < n) (below n)
 unfolding below

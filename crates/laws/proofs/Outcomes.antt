@@ -56,12 +56,12 @@ module _ {A : Type 0} {P : A → Type 0} where
   given_provided false h = given_fails
 
 module _ {A B : Type 0} {Q : B → Type 0} where
-  pub given-attempt :
+  pub given_attempt :
       {P : A → Type 0} {a : Attempt A} {f : A → Attempt B}
       → Given P a → ((x : A) → P x → Given Q (f x)) → Given Q (attempt a f)
   unfolding attempt
-  given-attempt {a = fails} h k = given_fails
-  given-attempt {a = gives x} h k = k x (h.given x refl)
+  given_attempt {a = fails} h k = given_fails
+  given_attempt {a = gives x} h k = k x (h.given x refl)
 
   -- .. with nothing known of what is given first
   pub given_any : {f : A → Attempt B} (a : Attempt A) → ((x : A) → Given Q (f x)) → Given Q (attempt a f)
@@ -89,9 +89,9 @@ module _ {A : Type 0} {P : A → Type 0} where
   found_refusing {a = gives x} n p h = found_reads (h.given x refl)
 
 module _ {A B : Type 0} {Q : B → Type 0} where
-  pub found-reading :
+  pub found_reading :
       {P : A → Type 0} {m : Reading A} {f : A → Reading B}
       → Found P m → ((x : A) → P x → Found Q (f x)) → Found Q (reading m f)
   unfolding reading
-  found-reading {m = refuses n p} h k = found_refuses
-  found-reading {m = reads x} h k = k x (h.found x refl)
+  found_reading {m = refuses n p} h k = found_refuses
+  found_reading {m = reads x} h k = k x (h.found x refl)

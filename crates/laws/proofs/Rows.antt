@@ -1,7 +1,7 @@
 -- Laws on rows and on what is laid over a list of cells, generic in the element.
 --     laid_nothing, laid_more       nothing laid changes nothing; laid one after the other is laid at once
---     row_laid, rowsAt-laid         what stands below is as it was
---     length-laid, length_row, get_d_row, set_laid
+--     row_laid, rows_at_laid         what stands below is as it was
+--     length_laid, length_row, get_d_row, set_laid
 use Prim.Native.Nat.{ℕ, zero, suc, ◌+◌, ◌-◌, ◌*◌, ◌≤◌, ◌<◌}
 use mathlib.Core.Path.{◌≡◌, refl, sym, ap, ap₂, ◌∙◌}
 use mathlib.Core.List.{List, [], ◌∷◌, ◌++◌, append_assoc}
@@ -35,10 +35,10 @@ module _ {A : Type 0} where
   unfolding laid
   laid_nothing xs at = rw add-zero (take-append-drop at xs)
 
-  pub length-laid :
+  pub length_laid :
       (xs : List A) (at : ℕ) (vs : List A) → at + length vs ≤ length xs → length (laid xs at vs) ≡ length xs
   unfolding laid
-  length-laid xs at vs h = simp (length-append, length-take, length-drop) (omega arith)
+  length_laid xs at vs h = simp (length-append, length-take, length-drop) (omega arith)
 
   pub laid_more :
       (xs : List A) (at : ℕ) (vs ws : List A) → at + length vs ≤ length xs →
@@ -79,14 +79,14 @@ module _ {A : Type 0} where
   unfolding row
   get_d_row xs a w c d h = get_or-take w (drop a xs) c d h ∙ get_or-drop a xs c d
 
-  pub rowsAt-laid :
+  pub rows_at_laid :
       (xs : List A) (at : ℕ) (vs : List A) (a n w : ℕ) → a + n * w ≤ at → at ≤ length xs →
       rows_at (laid xs at vs) a n w ≡ rows_at xs a n w
   unfolding rows_at
-  rowsAt-laid xs at vs a zero w h k = refl
-  rowsAt-laid xs at vs a (suc n) w h k =
+  rows_at_laid xs at vs a zero w h k = refl
+  rows_at_laid xs at vs a (suc n) w h k =
       let e : suc n * w ≡ n * w + w = suc-mul n w in
-      ap₂ ◌∷◌ (row_laid xs at vs a w (omega arith) k) (rowsAt-laid xs at vs (a + w) n w (omega arith) k)
+      ap₂ ◌∷◌ (row_laid xs at vs a w (omega arith) k) (rows_at_laid xs at vs (a + w) n w (omega arith) k)
 
   pub length_rows_at : (xs : List A) (a n w : ℕ) → length (rows_at xs a n w) ≡ n
   unfolding rows_at
@@ -119,7 +119,7 @@ module _ {A : Type 0} where
       v ≡ get_or ys (from + i) d → set ys (to + i) v ≡ laid xs to (row xs from (i + 1))
   copied_more xs ys from to i d v e h k r =
       let n : length (row xs from i) ≡ i = length_row xs from i (omega arith) in
-      let long : length (laid xs to (row xs from i)) ≡ length xs = length-laid xs to (row xs from i) (omega arith) in
+      let long : length (laid xs to (row xs from i)) ≡ length xs = length_laid xs to (row xs from i) (omega arith) in
       let here : v ≡ get_or xs (from + i) d =
       r ∙ ap (λ (l : List A). get_or l (from + i) d) e ∙ get_d_laid xs to (row xs from i) (from + i) d h (omega arith) in
       ap (λ (l : List A). set l (to + i) v) e
@@ -135,7 +135,7 @@ module _ {A : Type 0} where
       (xs ys : List A) (at n : ℕ) (vs : List A) (v : A) → ys ≡ laid xs at vs → length vs ≡ n → at + n < length xs →
       set ys (at + n) v ≡ laid xs at (vs ++ (v ∷ []))
   set_more xs ys at n vs v e k h =
-      let long : length (laid xs at vs) ≡ length xs = length-laid xs at vs (omega arith) in
+      let long : length (laid xs at vs) ≡ length xs = length_laid xs at vs (omega arith) in
       ap (λ (l : List A). set l (at + n) v) e
       ∙ set_laid (laid xs at vs) (at + n) v (omega arith)
       ∙ ap (λ (m : ℕ). laid (laid xs at vs) (at + m) (v ∷ [])) (sym k)

@@ -11,7 +11,7 @@ use Rattle.meaning.specs.Operators.{Table}
 use Rattle.tables.specs.declared.Laid.{Laid}
 use Rattle.tables.specs.declared.Laid.TheVariants as Laid
 use Rattle.tables.specs.Layout.{Owes}
-use Rattle.tables.proofs.Standing.{laid-fits}
+use Rattle.tables.proofs.Standing.{laid_fits}
 use Rattle.directory.specs.Directory.{entered}
 use Rattle.operators.specs.declared.Top.{Top}
 use Rattle.laying.specs.declared.Turned.TheVariants.{On, Full, Fails}
@@ -23,7 +23,7 @@ module _ (room at w : ℕ) (made : Attempt Table) (xs ys : List ℤ) (o : Laid) 
   laid_rows = subst (Owes room at w made xs ys) e owes
 
   pub rows_fit : (v : ℕ) → v ≡ w → at + k * v ≤ room
-  rows_fit v i = subst (λ (u : ℕ). at + k * u ≤ room) (sym i) (laid-fits room at w made xs ys k laid_rows)
+  rows_fit v i = subst (λ (u : ℕ). at + k * u ≤ room) (sym i) (laid_fits room at w made xs ys k laid_rows)
 
 module _ (room : ℕ) (top : Top) (w : ℕ) (made : Attempt Table) (xs ys : List ℤ) (dir next : List ℕ) (o : Laid)
     (owes : Owes room top.cells w made xs ys o) where

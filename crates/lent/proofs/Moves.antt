@@ -4,8 +4,8 @@
 --     part_row                 a part of a slice is a row
 --     row_kept                 a row below the part that is kept is as it was
 --     copied_on                one member more, copied down over itself or up past itself
---     laid-zeros               one zero more
---     padded-zeros             zeros laid to the end
+--     laid_zeros               one zero more
+--     padded_zeros             zeros laid to the end
 use Prim.Native.Nat.{ℕ, ◌+◌, ◌-◌, ◌≤◌, ◌<◌}
 use mathlib.Core.Path.{◌≡◌, sym, ap, ◌∙◌}
 use mathlib.Core.Logic.{◌⊎◌, ⊎_elim}
@@ -72,10 +72,10 @@ module _ {A : Type 0} where
       ∙ sym (row_suc xs from i d k)
       ∙ ap (row xs from) (sym (add-one i)))
 
-  pub laid-zeros :
+  pub laid_zeros :
       (xs ys : List A) (at i : ℕ) (z : A) → at ≤ i → i < length xs → ys ≡ laid xs at (replicate (i - at) z) →
       set ys i z ≡ laid xs at (replicate (i + 1 - at) z)
-  laid-zeros xs ys at i z h k e =
+  laid_zeros xs ys at i z h k e =
       let n = i - at in
       let s : at + n ≡ i = omega arith in
       let t : n + 1 ≡ i + 1 - at = omega arith in
@@ -83,11 +83,11 @@ module _ {A : Type 0} where
       ∙ set_more xs ys at n (replicate n z) z e (length-replicate n z) (omega arith)
       ∙ ap (laid xs at) (replicate-append-replicate n 1 z ∙ ap (λ (m : ℕ). replicate m z) t)
 
-  pub padded-zeros :
+  pub padded_zeros :
       (xs : List A) (at : ℕ) (z : A) → at ≤ length xs →
       laid xs at (replicate (length xs - at) z) ≡ padded z (length xs) (take at xs)
   unfolding laid padded
-  padded-zeros xs at z h =
+  padded_zeros xs at z h =
       rw (
         length-take-le at xs h,
         length-replicate (length xs - at) z,

@@ -1,13 +1,13 @@
 -- Laws of lifting: variables are lifted one after another, by rising number.
---     lifts-same, lifted_same      only the tables of the variables concerned matter
---     lifts-append                 the operators that lift variables in two parts
---     lifted_absent, lifted-last   the table of a variable that is not lifted; of the last one that is
+--     lifts_same, lifted_same      only the tables of the variables concerned matter
+--     lifts_append                 the operators that lift variables in two parts
+--     lifted_absent, lifted_last   the table of a variable that is not lifted; of the last one that is
 --     flagged_below                the flagged variables below n are below n
---     lifts-none, lifts-one        no variable; one
+--     lifts_none, lifts_one        no variable; one
 --     lifts_more                   one variable more
---     lifts-room                   room for one variable more
+--     lifts_room                   room for one variable more
 --     hold_holds                   the row of eight with another table
---     flagged-free, flagged-others the flags of free variables give the variables that are to be lifted
+--     flagged_free, flagged_others the flags of free variables give the variables that are to be lifted
 --     lifts-rule                   what `lift` leaves, over the tables that the row of eight holds
 use Prim.Native.Nat.{ℕ, suc, ◌+◌, ◌≤◌, ◌<◌}
 use mathlib.Core.Path.{◌≡◌, refl, sym, ap, ap₂, ◌∙◌, subst}
@@ -37,11 +37,11 @@ use Rattle.lifting.specs.Lifts.{tables_of, HoldsTables, flagged, Lifts}
 use Rattle.adding.proofs.Adding.{wrote_none, wrote_then, wrote_room}
 
 module _ (e f : Tables) where
-  pub lifts-same :
+  pub lifts_same :
       (m : ℕ) (cs : List ℕ) (n : ℕ) (vs : List ℕ) → All (λ v. e v ≡ f v) vs → lifts e m cs n vs ≡ lifts f m cs n vs
   unfolding lifts
-  lifts-same m cs n [] h = refl
-  lifts-same m cs n (v ∷ vs) h = rw (h.0, lifts-same m cs (n + 2) vs h.1)
+  lifts_same m cs n [] h = refl
+  lifts_same m cs n (v ∷ vs) h = rw (h.0, lifts_same m cs (n + 2) vs h.1)
 
   pub lifted_same : (u n : ℕ) (vs : List ℕ) → e u ≡ f u → lifted e n vs u ≡ lifted f n vs u
   unfolding lifted hold
@@ -49,18 +49,18 @@ module _ (e f : Tables) where
   lifted_same u n (v ∷ vs) h = ap (cond (eqb u v) (n + 1)) (lifted_same u (n + 2) vs h)
 
 module _ (e : Tables) where
-  pub lifts-append :
+  pub lifts_append :
       (m : ℕ) (cs : List ℕ) (n : ℕ) (vs ws : List ℕ) →
       lifts e m cs n (vs ++ ws) ≡ lifts e m cs n vs ++ lifts e m cs (n + length (lifts e m cs n vs)) ws
   unfolding lifts
-  lifts-append m cs n [] ws =
+  lifts_append m cs n [] ws =
       let z : n ≡ n + 0 = omega arith in
       ap (λ (k : ℕ). lifts e m cs k ws) z
-  lifts-append m cs n (v ∷ vs) ws =
+  lifts_append m cs n (v ∷ vs) ws =
       let rest = lifts e m cs (n + 2) vs in
       let z : n + 2 + length rest ≡ n + suc (suc (length rest)) = omega arith in
       ap (λ (os : List Op). RJ (e v) 0 m 0 ∷ RP n cs ∷ os)
-      (lifts-append m cs (n + 2) vs ws ∙ ap (λ (k : ℕ). rest ++ lifts e m cs k ws) z)
+      (lifts_append m cs (n + 2) vs ws ∙ ap (λ (k : ℕ). rest ++ lifts e m cs k ws) z)
 
   pub lifted_absent : (u n : ℕ) (vs : List ℕ) → All (λ v. v < u) vs → lifted e n vs u ≡ e u
   unfolding lifted hold
@@ -68,17 +68,17 @@ module _ (e : Tables) where
   lifted_absent u n (v ∷ vs) h = rw (ne_eqb u v (λ p. omega (arith, h.0, p))) (lifted_absent u (n + 2) vs h.1)
 
   -- the table of a variable, where v is lifted last
-  pub lifted-last :
+  pub lifted_last :
       (m : ℕ) (cs : List ℕ) (u v n : ℕ) (vs : List ℕ) → All (λ w. w < v) vs →
       lifted e n (vs ++ (v ∷ [])) u ≡ cond (eqb u v) (n + length (lifts e m cs n vs) + 1) (lifted e n vs u)
   unfolding lifted lifts hold
-  lifted-last m cs u v n [] h =
+  lifted_last m cs u v n [] h =
       let z : n + 1 ≡ n + 0 + 1 = omega arith in
       ap (λ (k : ℕ). cond (eqb u v) k (e u)) z
-  lifted-last m cs u v n (w ∷ vs) h =
+  lifted_last m cs u v n (w ∷ vs) h =
       let rest = lifts e m cs (n + 2) vs in
       let z : n + 2 + length rest + 1 ≡ n + suc (suc (length rest)) + 1 = omega arith in
-      ap (cond (eqb u w) (n + 1)) (lifted-last m cs u v (n + 2) vs h.1)
+      ap (cond (eqb u w) (n + 1)) (lifted_last m cs u v (n + 2) vs h.1)
       ∙ ap (λ (k : ℕ). cond (eqb u w) (n + 1) (cond (eqb u v) k (lifted e (n + 2) vs u))) z
       ∙ turn (n + 1) (n + suc (suc (length rest)) + 1) (lifted e (n + 2) vs u) (ℕ_discrete u v)
     where
@@ -95,10 +95,10 @@ pub flagged_more : (fs : List Bool) (v : ℕ) → flagged fs (v + 1) ≡ flagged
 unfolding flagged below filter
 flagged_more fs v = rw add-one (filter_append (λ u. get_or fs u false) (below v) (v ∷ []))
 
-pub lifts-none :
+pub lifts_none :
     (ts : List ℕ) (m : ℕ) (cs x : List ℕ) (p : Pen) → Lifts ts m cs [] x p x (record { tables = ts; pen = p })
 unfolding lifts lifted
-lifts-none ts m cs x p = record { wrote = wrote_none x p; holds = λ v h. refl }
+lifts_none ts m cs x p = record { wrote = wrote_none x p; holds = λ v h. refl }
 
 -- the row of eight with one more table
 set_holds : (ts : List ℕ) (v t u : ℕ) → length ts ≡ 8 → u < 8 → get_or (set ts v t) u 0 ≡ cond (eqb u v) t (get_or ts u 0)
@@ -114,12 +114,12 @@ pub hold_holds :
 unfolding hold
 hold_holds ts e v t l h u k = set_holds ts v t u l k ∙ ap (cond (eqb u v) t) (h u k)
 
-pub lifts-one :
+pub lifts_one :
     (ts : List ℕ) (m : ℕ) (cs : List ℕ) (v : ℕ) (x y : List ℕ) (p q : Pen) → length ts ≡ 8 →
     Wrote (RJ (get_or ts v 0) 0 m 0 ∷ RP p.operators cs ∷ []) x p y q →
     Lifts ts m cs (v ∷ []) x p y (record { tables = set ts v (p.operators + 1); pen = q })
 unfolding lifts lifted hold
-lifts-one ts m cs v x y p q l w =
+lifts_one ts m cs v x y p q l w =
     record { wrote = w; holds = λ u h. set_holds ts v (p.operators + 1) u l h }
 
 module _
@@ -146,13 +146,13 @@ module _
       let k : a.pen.operators ≡ n + length before = done.wrote.count in
       let joins : before ++ lifts (tables_of a.tables) m cs a.pen.operators (v ∷ [])
       ≡ lifts (tables_of ts) m cs n (flagged fs v ++ (v ∷ [])) =
-      rw (own, k) (sym (lifts-append (tables_of ts) m cs n (flagged fs v) (v ∷ []))) in
+      rw (own, k) (sym (lifts_append (tables_of ts) m cs n (flagged fs v) (v ∷ []))) in
       record {
         wrote = subst (λ (os : List Op). Wrote os x p z r.pen) joins (wrote_then done.wrote g.wrote);
         holds = λ u h.
             g.holds u h
             ∙ ap₂ (λ (s t : ℕ). cond (eqb u v) (s + 1) t) k (done.holds u h)
-            ∙ sym (lifted-last (tables_of ts) m cs u v n (flagged fs v) (flagged_below fs v));
+            ∙ sym (lifted_last (tables_of ts) m cs u v n (flagged fs v) (flagged_below fs v));
       }
 
   more_no : Lifts a.tables m cs [] y a.pen z r → Lifts ts m cs (flagged fs v ++ []) x p z r
@@ -173,11 +173,11 @@ module _
       (λ b. rw b (more_yes (rw b at one)))
       (λ b. rw b (more_no (rw b at one))))
 
-pub lifts-room :
+pub lifts_room :
     (ts : List ℕ) (m : ℕ) (cs : List ℕ) (fs : List Bool) (v : ℕ) (x y : List ℕ) (p : Pen) (a : Lifted) →
     Lifts ts m cs (flagged fs v) x p y a → v < 8 → PenRoom p 16 → PenRoom a.pen 2
 unfolding flagged
-lifts-room ts m cs fs v x y p a g l h =
+lifts_room ts m cs fs v x y p a g l h =
     wrote_room g.wrote 2 16 h
     (omega (
       arith,
@@ -188,10 +188,10 @@ lifts-room ts m cs fs v x y p a g l h =
 
 -- The variables to be lifted
 
-pub flagged-free :
+pub flagged_free :
     (fs : List Bool) (q : Query) → ((v : ℕ) → v < 8 → get_or fs v false ≡ free v q) → flagged fs 8 ≡ free_in q
 unfolding flagged free_in
-flagged-free fs q h =
+flagged_free fs q h =
     filter_same (λ v. get_or fs v false) (λ v. free v q) (below 8) (all_map (below 8) h (all_below 8))
 
 clear_flag : (fs : List Bool) (u v : ℕ) → length fs ≡ 8 → v < 8 → get_or (set fs u false) v false ≡ not
@@ -202,11 +202,11 @@ clear_flag fs u v l k = go (ℕ_discrete v u)
     go (yes h) = rw (eq-eqb v u h, h) (get_or-set_same fs u false false (omega arith))
     go (no h) = rw (ne_eqb v u h) (get_or-set_other fs u v false false h)
 
-pub flagged-others :
+pub flagged_others :
     (fs : List Bool) (u : ℕ) (q : Query) → length fs ≡ 8 → ((v : ℕ) → v < 8 → get_or fs v false ≡ free v q) →
     flagged (set fs u false) 8 ≡ others_in u q
 unfolding flagged others_in
-flagged-others fs u q l h =
+flagged_others fs u q l h =
     filter_same (λ v. get_or (set fs u false) v false) (λ v. not (eqb v u) && free v q) (below 8)
     (all_map (below 8) (λ v k. clear_flag fs u v l k ∙ ap (λ (b : Bool). not (eqb v u) && b) (h v k)) (all_below 8))
 
@@ -217,7 +217,7 @@ module _
   pub lifts_wrote : Wrote (lifts e m cs p.operators vs) x p y r.pen
   lifts_wrote =
       subst (λ (us : List ℕ). Wrote (lifts e m cs p.operators us) x p y r.pen) s
-      (rw (lifts-same (tables_of ts) e m cs p.operators (flagged fs 8)
+      (rw (lifts_same (tables_of ts) e m cs p.operators (flagged fs 8)
       (all_map (flagged fs 8) h (flagged_below fs 8)))
       at g.wrote)
 

@@ -1,6 +1,6 @@
 -- The text on examples: the marked one over the bytes of its files, and a line of each kind.
 --     marked       the catalogue and the query of document 01 print what it says
---     each-kind    items of each kind, and engines that agree
+--     each_kind    items of each kind, and engines that agree
 --     others       refusals, and engines that differ or had no room
 use mathlib.Core.Path.{◌≡◌, refl}
 use mathlib.Core.List.{List, [], ◌∷◌}
@@ -87,7 +87,7 @@ unfolding Decimal.digits Decimal.decimal Decimal.signed
 marked = refl
 
 -- `items 5`, `int -2147483648`, `int 2147483647`, `bool 0`, `bool 1`, `node 2047`, `same yes`
-each-kind :
+each_kind :
     let xs = negsuc 2147483647 ∷ pos 2147483647 ∷ pos 0x1_0000_0000 ∷ pos 0x1_0000_0001 ∷ pos (0x2_0000_07FF) ∷ [] in
     Text.text (Gave 1) (Gave 5) xs (Gave 5) xs
     ≡ 105 ∷ 116 ∷ 101 ∷ 109 ∷ 115 ∷ 32 ∷ 53 ∷ 10
@@ -102,7 +102,7 @@ unfolding Decimal.digits Decimal.decimal Decimal.signed
     Text.refused_line Text.items_line Text.first_lines Text.same_line Text.text
     Compared.refused_with Compared.agree Compared.verdict
     Lists.gather Cell.held Cell.same Operators.same_row
-each-kind = refl
+each_kind = refl
 
 -- the translator's refusal alone; the runner's, where the evaluator refuses alike, gave items, or had no room
 alone :

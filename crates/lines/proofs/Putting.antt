@@ -10,16 +10,16 @@ use native.Mathlib.Omega.{arith}
 use lib.ListN.{length, take, drop}
 use lib.Seq.{take_at}
 use Rattle.laws.specs.Rows.{laid}
-use Rattle.laws.proofs.Rows.{length-laid}
+use Rattle.laws.proofs.Rows.{length_laid}
 use Rattle.pen.specs.Penned.{Pens}
-use Rattle.pen.proofs.Penned.{penned-laid}
+use Rattle.pen.proofs.Penned.{penned_laid}
 use Rattle.lines.specs.Placed.{Put}
 
 module _ (xs : List ℕ) (at : ℕ) (ys : List ℕ) (bs : List ℕ) (m : ℕ) where
   pub put_penned : m ≤ length xs → Pens at bs xs ys m → Put xs ys at bs m
   put_penned h p =
       record {
-        written = p.leaves ∙ penned-laid xs at bs (omega (arith, p.ends));
+        written = p.leaves ∙ penned_laid xs at bs (omega (arith, p.ends));
         ended = p.ends;
         fits = h;
       }
@@ -29,7 +29,7 @@ module _ (xs : List ℕ) (at : ℕ) (ys : List ℕ) (bs : List ℕ) (m : ℕ) wh
     put_length =
         let e = p.ended in
         let f = p.fits in
-        ap length p.written ∙ length-laid xs at bs (omega arith)
+        ap length p.written ∙ length_laid xs at bs (omega arith)
 
     pub put_is : (cs : List ℕ) → bs ≡ cs → Put xs ys at cs m
     put_is cs e = subst (λ (l : List ℕ). Put xs ys at l m) e p

@@ -8,7 +8,7 @@
 --     told ask                          the calls' answers to a question
 --     examples                          the table: a question, and what must be told
 --     marked                            every question is told what the table says
---     repeated-rows-stay                RD keeps repeated rows
+--     repeated_rows_stay                RD keeps repeated rows
 use Prim.Native.Nat.{ℕ, zero, suc, ◌-◌}
 use mathlib.Core.Path.{◌≡◌, refl}
 use mathlib.Core.List.{List, [], ◌∷◌, ◌++◌, map}
@@ -223,8 +223,8 @@ unfolding told examples nested latitudes by_zero mixed one_two nested_items both
 marked = refl
 
 -- RD keeps repeated rows of t: they are no set
-repeated-rows-stay :
+repeated_rows_stay :
     Operators.minus ((pos 1 ∷ []) ∷ (pos 1 ∷ []) ∷ (pos 2 ∷ []) ∷ []) ((pos 2 ∷ []) ∷ [])
     ≡ (pos 1 ∷ []) ∷ (pos 1 ∷ []) ∷ []
 unfolding Operators.minus Operators.same_row Lists.filter Lists.any Cell.same
-repeated-rows-stay = refl
+repeated_rows_stay = refl

@@ -1,9 +1,9 @@
 -- The rows of a group, row by row, and the row of two cells that is made of them.
---     group-yes, group-no, group_none    the rows from row i on: row i is of the group, it is not, there is none
---     group-front                        the first row is of its own group
---     counted-more, counted_end          how many they are
---     pair_full, pair-laid, pair_is      a row of two cells
---     owes-given, owes_failed            rows that stand on something that is worked out first
+--     group_yes, group_no, group_none    the rows from row i on: row i is of the group, it is not, there is none
+--     group_front                        the first row is of its own group
+--     counted_more, counted_end          how many they are
+--     pair_full, pair_laid, pair_is      a row of two cells
+--     owes_given, owes_failed            rows that stand on something that is worked out first
 use Prim.Native.Nat.{ℕ, suc, ◌+◌, ◌-◌, ◌≤◌, ◌<◌}
 use mathlib.Core.Path.{◌≡◌, refl, sym, ap, ap₂, ◌∙◌}
 use mathlib.Core.List.{List, [], ◌∷◌}
@@ -27,25 +27,25 @@ use Rattle.members.specs.Grouped.{in_front}
 use Rattle.tables.specs.Order.{cell_at}
 
 module _ (t : Table) (c : ℕ) (x : ℤ) (i : ℕ) where
-  group-split :
+  group_split :
       i < length t →
       group_of (drop i t) c x
       ≡ cond (same x (cell_at t c i)) (get_or t i [] ∷ group_of (drop (i + 1) t) c x) (group_of (drop (i + 1) t) c x)
   unfolding group_of filter
-  group-split h =
+  group_split h =
       let next : suc i ≡ i + 1 = omega arith in
       ap (λ (u : Table). group_of u c x) (drop-cons t i [] h ∙ ap (λ (j : ℕ). get_or t i [] ∷ drop j t) next)
 
-  pub group-yes :
+  pub group_yes :
       i < length t → same x (cell_at t c i) ≡ true → group_of (drop i t) c x ≡ get_or t i [] ∷ group_of (drop (i + 1) t) c x
-  group-yes h e =
-      group-split h
+  group_yes h e =
+      group_split h
       ∙ ap (λ (b : Bool). cond b (get_or t i [] ∷ group_of (drop (i + 1) t) c x) (group_of (drop (i + 1) t) c x)) e
 
-  pub group-no :
+  pub group_no :
       i < length t → same x (cell_at t c i) ≡ false → group_of (drop i t) c x ≡ group_of (drop (i + 1) t) c x
-  group-no h e =
-      group-split h
+  group_no h e =
+      group_split h
       ∙ ap (λ (b : Bool). cond b (get_or t i [] ∷ group_of (drop (i + 1) t) c x) (group_of (drop (i + 1) t) c x)) e
 
   pub group_none : length t ≤ i → group_of (drop i t) c x ≡ []
@@ -53,33 +53,33 @@ module _ (t : Table) (c : ℕ) (x : ℤ) (i : ℕ) where
   group_none h = ap (λ (u : Table). group_of u c x) (drop_of_length-le t {i = i} h)
 
   -- one row more is counted
-  pub counted-more :
+  pub counted_more :
       (n whole : ℕ) (b : Bool) → i < length t → b ≡ same x (cell_at t c i)
       → n + length (group_of (drop i t) c x) ≡ whole →
       n + bool_byte b + length (group_of (drop (i + 1) t) c x) ≡ whole
-  counted-more n whole b h e d = go b e
+  counted_more n whole b h e d = go b e
     where
       go : (b : Bool) → b ≡ same x (cell_at t c i) → n + bool_byte b + length (group_of (drop (i + 1) t) c x) ≡ whole
-      go true e = omega (arith, ap length (group-yes h (sym e)))
-      go false e = omega (arith, ap length (group-no h (sym e)))
+      go true e = omega (arith, ap length (group_yes h (sym e)))
+      go false e = omega (arith, ap length (group_no h (sym e)))
 
   pub counted_end : (n whole : ℕ) → length t ≤ i → n + length (group_of (drop i t) c x) ≡ whole → n ≡ whole
   counted_end n whole h d = omega (arith, ap length (group_none h))
 
-pub group-front :
+pub group_front :
     (t : Table) (c : ℕ) → 0 < length t →
     group_of t c (in_front t c) ≡ get_or t 0 [] ∷ group_of (drop 1 t) c (in_front t c)
-group-front t c h = group-yes t c (in_front t c) 0 h (same_refl (in_front t c))
+group_front t c h = group_yes t c (in_front t c) 0 h (same_refl (in_front t c))
 
 -- a row of two cells
 module _ (room at : ℕ) (x y : ℤ) (xs : List ℤ) where
   pub pair_full : room < at + 2 → Owes room at 2 (gives ((x ∷ y ∷ []) ∷ [])) xs xs Full
   pair_full h = one_full room at 2 (x ∷ y ∷ []) xs refl h
 
-  pub pair-laid :
+  pub pair_laid :
       (v w : ℤ) → v ≡ x → w ≡ y → at + 2 ≤ room → room ≤ length xs →
       Owes room at 2 (gives ((x ∷ y ∷ []) ∷ [])) xs (set (set xs at v) (at + 1) w) (Rows 1)
-  pair-laid v w d e h k =
+  pair_laid v w d e h k =
       one_laid room at 2 (x ∷ y ∷ []) xs refl (set (set xs at v) (at + 1) w) h
       (ap₂ (λ (p q : ℤ). set (set xs at p) (at + 1) q) d e
       ∙ set_more xs (set xs at x) at 1 (x ∷ []) y (set_laid xs at x (omega arith)) refl (omega arith))
@@ -92,11 +92,11 @@ pair_is room at x y v w xs ys o d e h =
 
 -- rows that stand on something that is worked out first
 module _ {A : Type 0} (room at w : ℕ) (o : Attempt A) (g : A → Attempt Table) (xs : List ℤ) where
-  pub owes-given :
+  pub owes_given :
       (a : A) (ys : List ℤ) (l : Laid) → o ≡ gives a → Owes room at w (g a) xs ys l
       → Owes room at w (attempt o g) xs ys l
   unfolding attempt
-  owes-given a ys l e h = owes_is room at w xs ys l (ap (λ (p : Attempt A). attempt p g) e) h
+  owes_given a ys l e h = owes_is room at w xs ys l (ap (λ (p : Attempt A). attempt p g) e) h
 
   pub owes_failed : (ys : List ℤ) → length ys ≡ length xs → o ≡ fails → Owes room at w (attempt o g) xs ys Fails
   unfolding Owes attempt

@@ -1,5 +1,5 @@
 -- Rows that open a group.
---     opens_first, opens_up, opens-else     the first row; a row where the column climbs; any
+--     opens_first, opens_up, opens_else     the first row; a row where the column climbs; any
 use Prim.Native.Nat.{ℕ, zero, suc, ◌-◌, ◌<◌}
 use mathlib.Core.Path.{◌≡◌, refl, sym, ap, ap₂, ◌∙◌, subst}
 use mathlib.Core.List.{List, [], ◌∷◌}
@@ -22,13 +22,13 @@ use Rattle.tables.proofs.Climbing.{climbs_low, climbs_tail, climbs_at}
 use Rattle.tables.proofs.Reading.{length_column, get_d_column, column_take, table_above}
 
 -- in a column that climbs a cell that stands above stands just above
-above-is :
+above_is :
     (xs : List ℤ) (i : ℕ) → climbs xs ≡ true → suc i < length xs →
     any (same (get_or xs (suc i) (pos 0))) (take (suc i) xs) ≡ same (get_or xs (suc i) (pos 0)) (get_or xs i (pos 0))
 unfolding any
-above-is [] i e h = absurd (omega arith)
-above-is (x ∷ xs) zero e h = or-false (same (get_or xs 0 (pos 0)) x)
-above-is (x ∷ xs) (suc i) e h =
+above_is [] i e h = absurd (omega arith)
+above_is (x ∷ xs) zero e h = or-false (same (get_or xs 0 (pos 0)) x)
+above_is (x ∷ xs) (suc i) e h =
     let z = get_or xs (suc i) (pos 0) in
     let y = get_or xs i (pos 0) in
     by_cases (same z x)
@@ -40,7 +40,7 @@ above-is (x ∷ xs) (suc i) e h =
     (climbs_at xs i (suc i) (climbs_tail x xs e) (omega arith) (omega arith))) low in
     ap (◌|| any (same z) (take (suc i) xs)) d ∙ sym here)
     (λ d.
-    ap (◌|| any (same z) (take (suc i) xs)) d ∙ above-is xs i (climbs_tail x xs e) (omega arith))
+    ap (◌|| any (same z) (take (suc i) xs)) d ∙ above_is xs i (climbs_tail x xs e) (omega arith))
 
 module _ (t : Table) (c i : ℕ) where
   pub opens_first : i ≡ 0 → true ≡ opening t c i
@@ -61,14 +61,14 @@ module _ (t : Table) (c i : ℕ) where
           ap₂ (λ (k l : ℕ). not (same (cell_at t c k) (cell_at t c l))) d back
           ∙ ap not
           (ap₂ same (sym (get_d_column t c (suc j))) (sym (get_d_column t c j))
-          ∙ sym (above-is (column t c) j e (omega arith))
+          ∙ sym (above_is (column t c) j e (omega arith))
           ∙ ap (λ (x : ℤ). any (same x) (take (suc j) (column t c))) (get_d_column t c (suc j)))
           ∙ ap (λ (k : ℕ). not (any (same (cell_at t c k)) (take k (column t c)))) (sym d)
 
-pub opens-else :
+pub opens_else :
     (xs : List ℤ) (s : Stand) (c i : ℕ) (x : ℤ) → i < s.rows → x ≡ cell_at (table_at xs s) c i →
     not (any (same x) (column (rows_at xs s.at i s.width) c)) ≡ opening (table_at xs s) c i
 unfolding opening
-opens-else xs s c i x h e =
+opens_else xs s c i x h e =
     ap₂ (λ (u : ℤ) (l : List ℤ). not (any (same u) l)) e
     (ap (λ (t : Table). column t c) (table_above xs s i (omega arith)) ∙ column_take (table_at xs s) c i)

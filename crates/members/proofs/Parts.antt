@@ -1,8 +1,8 @@
 -- The part of a table that has all rows of the group that a row opens.
---     opening-group      the rows above a row that opens a group have none of the group's
+--     opening_group      the rows above a row that opens a group have none of the group's
 --     leading-..         the rows from the first on that hold one cell, row by row
 --     from s i n, HasGroup   n rows of the table s from row i on, and what is asked of them
---     left_has, run-has  what both parts have
+--     left_has, run_has  what both parts have
 use Prim.Native.Nat.{ℕ, suc, ◌+◌, ◌-◌, ◌*◌, ◌≤◌, ◌<◌}
 use mathlib.Core.Path.{◌≡◌, refl, sym, ap, ap₂, ◌∙◌, subst}
 use mathlib.Core.List.{List, [], ◌∷◌, ◌++◌}
@@ -25,7 +25,7 @@ use Rattle.tables.specs.declared.Stand.{Stand}
 use Rattle.tables.specs.Layout.{table_at}
 use Rattle.members.specs.Grouped.{in_front, opening, leading}
 use Rattle.tables.specs.Order.{cell_at, climbs}
-use Rattle.tables.proofs.Reading.{length_table, length_column, get_d_column, column_drop, column_take, table-part}
+use Rattle.tables.proofs.Reading.{length_table, length_column, get_d_column, column_drop, column_take, table_part}
 use Rattle.tables.proofs.Climbing.{climbs_low, climbs_tail, climbs_drop}
 
 none_group : (t : Table) (c : ℕ) (x : ℤ) → any (same x) (column t c) ≡ false → group_of t c x ≡ []
@@ -36,10 +36,10 @@ none_group (r ∷ t) c x e =
     (λ d. clash (ap (◌|| any (same x) (column t c)) d) e)
     (λ d. rw d (none_group t c x (sym (ap (◌|| any (same x) (column t c)) d) ∙ e)))
 
-pub opening-group :
+pub opening_group :
     (t : Table) (c i : ℕ) → opening t c i ≡ true → group_of (drop i t) c (cell_at t c i) ≡ group_of t c (cell_at t c i)
 unfolding opening group_of
-opening-group t c i e =
+opening_group t c i e =
     let x = cell_at t c i in
     let none : group_of (take i t) c x ≡ [] =
     none_group (take i t) c x (ap (any (same x)) (column_take t c i) ∙ not-true _ e) in
@@ -59,10 +59,10 @@ module _ (t : Table) (c : ℕ) (x : ℤ) (i : ℕ) where
       (drop-cons (column t c) i (pos 0) (omega (arith, length_column t c))
       ∙ ap (◌∷ drop (suc i) (column t c)) (get_d_column t c i))
 
-  pub leading-more :
+  pub leading_more :
       (whole : ℕ) → i < length t → same x (cell_at t c i) ≡ true → i + leading (same x) (drop i (column t c)) ≡ whole →
       i + 1 + leading (same x) (drop (i + 1) (column t c)) ≡ whole
-  leading-more whole h e d =
+  leading_more whole h e d =
       let next : suc i ≡ i + 1 = omega arith in
       let k : leading (same x) (drop i (column t c)) ≡ suc (leading (same x) (drop (i + 1) (column t c))) =
       leading_split h
@@ -70,18 +70,18 @@ module _ (t : Table) (c : ℕ) (x : ℤ) (i : ℕ) where
       ∙ ap (λ (j : ℕ). suc (leading (same x) (drop j (column t c)))) next in
       omega arith
 
-  pub leading-stops :
+  pub leading_stops :
       (whole : ℕ) → i < length t → same x (cell_at t c i) ≡ false → i + leading (same x) (drop i (column t c)) ≡ whole →
       i ≡ whole
-  leading-stops whole h e d =
+  leading_stops whole h e d =
       let k : leading (same x) (drop i (column t c)) ≡ 0 =
       leading_split h ∙ ap (λ (b : Bool). cond b (suc (leading (same x) (drop (suc i) (column t c)))) 0) e in
       omega arith
 
-  pub leading-ends :
+  pub leading_ends :
       (whole : ℕ) → length t ≤ i → i + leading (same x) (drop i (column t c)) ≡ whole → i ≡ whole
   unfolding leading
-  leading-ends whole h d =
+  leading_ends whole h d =
       let k : leading (same x) (drop i (column t c)) ≡ 0 =
       ap (leading (same x)) (drop_of_length-le (column t c) {i = i} (omega (arith, length_column t c))) in
       omega arith
@@ -113,12 +113,12 @@ run_all c x (r ∷ u) e h =
         clash (neither_same x (cell r c) b h.0) d)
         (λ f. f)
 
-run-group :
+run_group :
     (u : Table) (c : ℕ) → climbs (column u c) ≡ true →
     group_of (take (leading (same (cell_at u c 0)) (column u c)) u) c (cell_at u c 0) ≡ group_of u c (cell_at u c 0)
 unfolding column leading
-run-group [] c e = refl
-run-group (r ∷ u) c e =
+run_group [] c e = refl
+run_group (r ∷ u) c e =
     run_all c (cell r c) (r ∷ u) e (before_irrefl (cell r c), climbs_low (cell r c) (column u c) e)
 
 -- a part of the table s that begins with row i, and what is asked of it
@@ -142,12 +142,12 @@ module _ (xs : List ℤ) (s : Stand) (c i : ℕ) (inside : i < s.rows) where
 
   part_is : (n : ℕ) → n ≤ s.rows - i → table_at xs (from s i n) ≡ take n (drop i t)
   unfolding table_at
-  part_is n h = table-part xs s i n (omega arith) h
+  part_is n h = table_part xs s i n (omega arith) h
 
-  part-has :
+  part_has :
       (n : ℕ) → n ≤ s.rows - i → 0 < n →
       group_of (take n (drop i t)) c (cell_at t c i) ≡ group_of t c (cell_at t c i) → HasGroup xs s c i (from s i n)
-  part-has n h k e =
+  part_has n h k e =
       let m : i + n ≤ s.rows = omega arith in (
         omega (arith, mul-le-mul_right s.width m, add-mul i n s.width),
         refl,
@@ -162,18 +162,18 @@ module _ (xs : List ℤ) (s : Stand) (c i : ℕ) (inside : i < s.rows) where
     -- all rows from row i on
     pub left_has : HasGroup xs s c i (from s i (s.rows - i))
     left_has =
-        part-has (s.rows - i) (omega arith) (omega arith)
+        part_has (s.rows - i) (omega arith) (omega arith)
         (ap (λ (u : Table). group_of u c (cell_at t c i))
         (take_all (s.rows - i) (drop i t) (omega (arith, length-drop i t, length_table xs s)))
-        ∙ opening-group t c i e)
+        ∙ opening_group t c i e)
 
     -- where the column climbs, the rows from row i on that hold its cell
-    pub run-has :
+    pub run_has :
         (n : ℕ) → climbs (column t c) ≡ true → n ≤ s.rows - i →
         n ≡ leading (same (in_front (table_at xs (from s i (s.rows - i))) c))
         (column (table_at xs (from s i (s.rows - i))) c) →
         HasGroup xs s c i (from s i n)
-    run-has n up h d =
+    run_has n up h d =
         let u = drop i t in
         let all : table_at xs (from s i (s.rows - i)) ≡ u =
         part_is (s.rows - i) (omega arith)
@@ -182,8 +182,8 @@ module _ (xs : List ℤ) (s : Stand) (c i : ℕ) (inside : i < s.rows) where
         d ∙ ap (λ (v : Table). leading (same (cell_at v c 0)) (column v c)) all in
         let some : 0 < leading (same (cell_at u c 0)) (column u c) =
         leading_some u c (omega (arith, length-drop i t, length_table xs s)) in
-        part-has n h (omega arith)
+        part_has n h (omega arith)
         (ap₂ (λ (k : ℕ) (x : ℤ). group_of (take k u) c x) m (sym front)
-        ∙ run-group u c (ap climbs (column_drop t c i) ∙ climbs_drop (column t c) i up)
+        ∙ run_group u c (ap climbs (column_drop t c i) ∙ climbs_drop (column t c) i up)
         ∙ ap (group_of u c) front
-        ∙ opening-group t c i e)
+        ∙ opening_group t c i e)

@@ -1,12 +1,12 @@
 -- Laws of marking: ranks that are marked one after another, and the ranks of a list of cells.
 --     among_more       one rank more
---     any-among, among_any     some rank of a list passes exactly when a rank among them does
+--     any_among, among_any     some rank of a list passes exactly when a rank among them does
 --     holds_more       one rank more is marked
 --     any_holds        marks and ranks are asked alike
 --     ranks_append     the ranks of a list are those of its parts
 --     one_more, one_fails_lem      one cell more
 --     marked_none, marked_more, marked_fails     the same, cell by cell through a list
---     rank-node, rank_far, rank_integer, rank_truth, rank_item, rank_stray     the rank of what a cell holds, case
+--     rank_node, rank_far, rank_integer, rank_truth, rank_item, rank_stray     the rank of what a cell holds, case
 --     by case
 use Prim.Native.Nat.{ℕ, suc, ◌+◌, ◌≤◌, ◌<◌}
 use mathlib.Core.Path.{◌≡◌, refl, sym, ap, subst, ◌∙◌}
@@ -37,7 +37,7 @@ use Rattle.nodesets.specs.declared.Marked.TheVariants.{AllNodes, NotANode}
 use Rattle.nodesets.specs.Nodes.{ranks}
 use Rattle.nodesets.specs.Nodes.{among, MarkSet, FromOne, FromAll}
 use Rattle.nodesets.proofs.Tests.{or_cases, or_left, or_right}
-use Rattle.nodesets.proofs.Ranks.{any_append, any-is}
+use Rattle.nodesets.proofs.Ranks.{any_append, any_is}
 
 one_only : (p : ℕ → Bool) (r : ℕ) → any p (r ∷ []) ≡ p r
 unfolding any
@@ -47,11 +47,11 @@ pub among_more : (rs : List ℕ) (r v : ℕ) → among (rs ++ (r ∷ [])) v ≡ 
 among_more rs r v =
     any_append (λ x. eqb x v) rs (r ∷ []) ∙ ap (λ b. among rs v || b) (one_only (λ x. eqb x v) r)
 
-pub any-among :
+pub any_among :
     (p : ℕ → Bool) (rs : List ℕ) → any p rs ≡ true → (x : ℕ) × (among rs x ≡ true) × (p x ≡ true)
 unfolding any
-any-among p [] t = clash t refl
-any-among p (r ∷ rs) t = by_place (or_cases (p r) (any p rs) t) (any-among p rs)
+any_among p [] t = clash t refl
+any_among p (r ∷ rs) t = by_place (or_cases (p r) (any p rs) t) (any_among p rs)
   where
     by_place :
         (p r ≡ true) ⊎ (any p rs ≡ true) → (any p rs ≡ true → (x : ℕ) × (among rs x ≡ true) × (p x ≡ true))
@@ -100,8 +100,8 @@ module _ (n : ℕ) (rs : List ℕ) (ms : List Bool) (o : MarkSet n rs ms) where
 
   pub any_holds : (p : ℕ → Bool) → any p rs ≡ any p (ranks n ms)
   any_holds p =
-      any-is p ms n (any p rs)
-      (λ t. let w = any-among p rs t in
+      any_is p ms n (any p rs)
+      (λ t. let w = any_among p rs t in
       (w.0, o.there w.0 w.1, o.marks w.0 (o.there w.0 w.1) ∙ w.1, w.2))
       (λ x h m k. among_any p rs x (sym (o.marks x h) ∙ m) k)
 
@@ -189,10 +189,10 @@ module _ (c : Catalogue) where
 
   -- the rank of an item
   module _ {item : Item} where
-    pub rank-node :
+    pub rank_node :
         {r : Rank} {n : ℕ} → item ≡ Node r → c.rows ≡ n → r.0 < n → gives r.0 ≡ rank_in c (Held.Item item)
     unfolding rank_in provided
-    rank-node {r} {n} e d h = rw (e, d, lt-ltb r.0 n h)
+    rank_node {r} {n} e d h = rw (e, d, lt-ltb r.0 n h)
 
     pub rank_far : {r : Rank} {n : ℕ} → item ≡ Node r → c.rows ≡ n → n ≤ r.0 → fails ≡ rank_in c (Held.Item item)
     unfolding rank_in provided

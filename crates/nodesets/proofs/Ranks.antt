@@ -2,8 +2,8 @@
 --     any_append        some member of either part
 --     below_same        tests that agree below n pick the same ranks
 --     ranks_none, ranks_more     the marked ranks below 0, and below n + 1
---     length_ranks, length-ranks-more, length_ranks_rises     how many they are
---     any_hit, any-miss     some marked rank passes; no marked rank passes
+--     length_ranks, length_ranks_more, length_ranks_rises     how many they are
+--     any_hit, any_miss     some marked rank passes; no marked rank passes
 use Prim.Native.Nat.{ℕ, zero, suc, ◌+◌, ◌≤◌, ◌<◌}
 use mathlib.Core.Path.{◌≡◌, refl, sym, ap, ◌∙◌}
 use mathlib.Core.List.{List, [], ◌∷◌, ◌++◌}
@@ -41,9 +41,9 @@ unfolding ranks below filter
 ranks_none ms = refl
 
 -- how many ranks one flag adds
-pub length-ranks-more :
+pub length_ranks_more :
     (n : ℕ) (ms : List Bool) → length (ranks (n + 1) ms) ≡ length (ranks n ms) + bool_byte (get_or ms n false)
-length-ranks-more n ms =
+length_ranks_more n ms =
     rw (add-one n, ranks_more n ms)
     (length-append (ranks n ms) (cond (get_or ms n false) (n ∷ []) []) ∙ one (get_or ms n false))
   where
@@ -57,7 +57,7 @@ length_ranks (suc n) ms =
     omega (
       arith,
       length_ranks n ms,
-      length-ranks-more n ms,
+      length_ranks_more n ms,
       ap (λ k. length (ranks k ms)) (add-one n),
       byte_few (get_or ms n false),
     )
@@ -74,17 +74,17 @@ length_ranks_rises (suc n) v ms h = by_place (ℕ_discrete v (suc n)) (length_ra
         → length (ranks v ms) ≤ length (ranks (suc n) ms)
     by_place (yes e) ih = omega (arith, ap (λ k. length (ranks k ms)) e)
     by_place (no e) ih =
-        omega (arith, ih (omega arith), length-ranks-more n ms, ap (λ k. length (ranks k ms)) (add-one n))
+        omega (arith, ih (omega arith), length_ranks_more n ms, ap (λ k. length (ranks k ms)) (add-one n))
 
 any_one : (p : ℕ → Bool) (n : ℕ) (t : Bool) → any p (cond t (n ∷ []) []) ≡ (t && p n)
 unfolding any
 any_one p n true = or-false (p n)
 any_one p n false = refl
 
-any-more :
+any_more :
     (p : ℕ → Bool) (n : ℕ) (ms : List Bool) →
     any p (ranks (suc n) ms) ≡ (any p (ranks n ms) || (get_or ms n false && p n))
-any-more p n ms = rw (ranks_more, any_append, any_one)
+any_more p n ms = rw (ranks_more, any_append, any_one)
 
 any_none : (p : ℕ → Bool) (ms : List Bool) → any p (ranks 0 ms) ≡ false
 unfolding any ranks below filter
@@ -93,18 +93,18 @@ any_none p ms = refl
 module _ (p : ℕ → Bool) (ms : List Bool) where
   pub any_hit : (n x : ℕ) → x < n → get_or ms x false ≡ true → p x ≡ true → any p (ranks n ms) ≡ true
   any_hit zero x h m k = absurd (omega arith)
-  any_hit (suc n) x h m k = rw (any-more p n ms) (by_order (ℕ_discrete x n) (λ j. any_hit n x j m k))
+  any_hit (suc n) x h m k = rw (any_more p n ms) (by_order (ℕ_discrete x n) (λ j. any_hit n x j m k))
     where
       by_order :
           Dec (x ≡ n) → (x < n → any p (ranks n ms) ≡ true) → (any p (ranks n ms) || (get_or ms n false && p n)) ≡ true
       by_order (yes e) ih = rw (← e, m, k) (or-true (any p (ranks x ms)))
       by_order (no e) ih = rw (ih (omega arith))
 
-  pub any-miss :
+  pub any_miss :
       (n : ℕ) → ((x : ℕ) → x < n → get_or ms x false ≡ true → p x ≡ true → ⊥) → any p (ranks n ms) ≡ false
-  any-miss zero h = any_none p ms
-  any-miss (suc n) h =
-      rw (any-more p n ms, any-miss n (λ x j. h x (omega arith))) (by_test (get_or ms n false) refl (p n) refl)
+  any_miss zero h = any_none p ms
+  any_miss (suc n) h =
+      rw (any_more p n ms, any_miss n (λ x j. h x (omega arith))) (by_test (get_or ms n false) refl (p n) refl)
     where
       by_test : (t : Bool) → get_or ms n false ≡ t → (u : Bool) → p n ≡ u → (false || (t && u)) ≡ false
       by_test true m true k = absurd (h n (omega arith) m k)
@@ -112,13 +112,13 @@ module _ (p : ℕ → Bool) (ms : List Bool) where
       by_test false m u k = refl
 
   -- a flag that is true for a marked rank that passes, and false for none, is the test of all marked ranks
-  pub any-is :
+  pub any_is :
       (n : ℕ) (b : Bool)
       → (b ≡ true → (x : ℕ) × (x < n) × (get_or ms x false ≡ true) × (p x ≡ true))
       → ((x : ℕ) → x < n → get_or ms x false ≡ true → p x ≡ true → b ≡ true)
       → b ≡ any p (ranks n ms)
-  any-is n true f g = let w = f refl in sym (any_hit n w.0 w.1 w.2 w.3)
-  any-is n false f g = sym (any-miss n (λ x h m k. clash (g x h m k) refl))
+  any_is n true f g = let w = f refl in sym (any_hit n w.0 w.1 w.2 w.3)
+  any_is n false f g = sym (any_miss n (λ x h m k. clash (g x h m k) refl))
 
 -- tests that agree below n pick the same ranks
 pub below_same : (p q : ℕ → Bool) (n : ℕ) → ((v : ℕ) → v < n → p v ≡ q v) → filter p (below n) ≡ filter q (below n)

@@ -1,8 +1,8 @@
 -- Laws of writing marked ranks out, rising.
 --     ranks_skip, ranks_take     the marked ranks below v + 1, where v is not marked, and where it is
 --     ranks_room                 a marked rank below n adds to the ranks below n
---     laid_begin, laid_skip, laid-take     no rank yet, a rank that is not marked, one that is
---     node-take                  one that is, where each rank is the cell of its node
+--     laid_begin, laid_skip, laid_take     no rank yet, a rank that is not marked, one that is
+--     node_take                  one that is, where each rank is the cell of its node
 --     rows_begin, row_take       the same where each rank is a row, a cell and then that of its node
 use Prim.Native.Nat.{ℕ, ◌+◌, ◌*◌, ◌<◌}
 use mathlib.Core.Path.{◌≡◌, refl, sym, ap, ◌∙◌}
@@ -52,10 +52,10 @@ module _ (g : List ℕ → List ℤ) (ms : List Bool) (at : ℕ) (old : List ℤ
           cells = o.cells ∙ ap (λ rs. laid old at (g rs)) (sym (ranks_skip ms v e));
         }
 
-    pub laid-take :
+    pub laid_take :
         get_or ms v false ≡ true → (more : List ℤ) → g (ranks v ms ++ (v ∷ [])) ≡ g (ranks v ms) ++ more
         → (next : List ℤ) → next ≡ laid old at (g (ranks v ms) ++ more) → ListedNodes g ms (v + 1) (n + 1) at old next
-    laid-take e more k next l =
+    laid_take e more k next l =
         record {
           number = omega (arith, o.number, ap length (ranks_take ms v e), length-append (ranks v ms) (v ∷ []));
           cells = l ∙ ap (laid old at) (sym (ap g (ranks_take ms v e) ∙ k));
@@ -64,11 +64,11 @@ module _ (g : List ℕ → List ℤ) (ms : List Bool) (at : ℕ) (old : List ℤ
 -- the cells of the nodes, one after another
 module _ (ms : List Bool) (at : ℕ) (old : List ℤ) (v n : ℕ) (new : List ℤ)
     (o : ListedNodes (map node_cell) ms v n at old new) where
-  pub node-take :
+  pub node_take :
       get_or ms v false ≡ true → at + n < length old
       → ListedNodes (map node_cell) ms (v + 1) (n + 1) at old (set new (at + n) (node_cell v))
-  node-take e h =
-      laid-take (map node_cell) ms at old v n new o e (node_cell v ∷ []) (map-append node_cell (ranks v ms) (v ∷ []))
+  node_take e h =
+      laid_take (map node_cell) ms at old v n new o e (node_cell v ∷ []) (map-append node_cell (ranks v ms) (v ∷ []))
       (set new (at + n) (node_cell v))
       (set_more old new at n (map node_cell (ranks v ms)) (node_cell v) o.cells
       (length-map (ranks v ms) node_cell ∙ sym o.number) h)
@@ -100,7 +100,7 @@ module _ (x : ℤ) where
           → ListedNodes (rows_of x) ms (v + 1) (n + 1) at old
           (set (set new (at + 2 * n) x) (at + 2 * n + 1) (node_cell v))
       row_take e h =
-          laid-take (rows_of x) ms at old v n new o e (x ∷ node_cell v ∷ []) (rows_snoc (ranks v ms) v)
+          laid_take (rows_of x) ms at old v n new o e (x ∷ node_cell v ∷ []) (rows_snoc (ranks v ms) v)
           (set (set new (at + 2 * n) x) (at + 2 * n + 1) (node_cell v))
           (rw (add_assoc at (2 * n) 1)
           (set_more old (set new (at + 2 * n) x) at (2 * n + 1) (rows_of x (ranks v ms) ++ (x ∷ [])) (node_cell v) first

@@ -1,7 +1,7 @@
 -- The counter of RN. In a table in order, one more than the earlier rows of the group is one more than the counter of
 -- the row in front, where that row is of the same group, and else 1.
---     counted-numbered     for any groups that an order keeps together
---     counted-group        for the groups of p, in the order by p and the keys
+--     counted_numbered     for any groups that an order keeps together
+--     counted_group        for the groups of p, in the order by p and the keys
 --     group_whole, group_by     the groups without p, and with it
 --     length_counted, wide_counted
 use Prim.Native.Nat.{ℕ, suc, ◌+◌}
@@ -44,11 +44,11 @@ module _ (group before : Row → Row → Bool) (w : Weak before)
     (alike : (r x : Row) → group r x ≡ true → (e : Row) → group r e ≡ group x e)
     (apart : (e x r : Row) → before x e ≡ false → before r x ≡ false → group r x ≡ false → group r e ≡ false) where
   -- the earlier rows of r's group, where no earlier row stands behind the one in front
-  earlier-count :
+  earlier_count :
       (earlier : Table) (front r : Row) (c : ℕ) → All (λ e. before front e ≡ false) earlier →
       count (group front) earlier ≡ c →
       before r front ≡ false → suc (count (group r) earlier) ≡ counter_of (group r front) c
-  earlier-count earlier front r c h e d =
+  earlier_count earlier front r c h e d =
       by_cases (group r front)
       (λ k. rw k (ap suc (count_alike (group r) (group front) earlier (alike r front k) ∙ e) ∙ sym (add-one c)))
       (λ k. rw k (ap suc (count_none (group r) earlier (all_map earlier (λ x b. apart x front r b d k) h))))
@@ -60,17 +60,17 @@ module _ (group before : Row → Row → Bool) (w : Weak before)
   unfolding count
   own_counted r t = rw (own r)
 
-  counted-after :
+  counted_after_lem :
       (earlier : Table) (front : Row) (c : ℕ) (rs : Table) → All (λ e. before front e ≡ false) earlier →
       count (group front) earlier ≡ c → Sorted before (front ∷ rs) →
       numbered_after group earlier rs ≡ counted_from group front c rs
   unfolding numbered_after counted_from
-  counted-after earlier front c [] h e s = refl
-  counted-after earlier front c (r ∷ rs) h e s =
+  counted_after_lem earlier front c [] h e s = refl
+  counted_after_lem earlier front c (r ∷ rs) h e s =
       let n : suc (count (group r) earlier) ≡ counter_of (group r front) c =
-      earlier-count earlier front r c h e s.0.0 in
+      earlier_count earlier front r c h e s.0.0 in
       ap₂ (λ (k : ℕ) (t : Table). (r ++ (pos k ∷ [])) ∷ t) n
-      (counted-after (r ∷ earlier) r (counter_of (group r front) c) rs
+      (counted_after_lem (r ∷ earlier) r (counter_of (group r front) c) rs
       (self r, all_map earlier (λ x b. w.through r front x s.0.0 b) h)
       (own_counted r earlier ∙ n)
       s.1)
@@ -80,13 +80,13 @@ module _ (group before : Row → Row → Bool) (w : Weak before)
   earlier_none r true = refl
   earlier_none r false = refl
 
-  pub counted-numbered :
+  pub counted_numbered :
       (front : Row) (rs : Table) → Sorted before rs → numbered_after group [] rs ≡ counted_from group front 0 rs
   unfolding numbered_after counted_from
-  counted-numbered front [] s = refl
-  counted-numbered front (r ∷ rs) s =
+  counted_numbered front [] s = refl
+  counted_numbered front (r ∷ rs) s =
       ap₂ (λ (k : ℕ) (t : Table). (r ++ (pos k ∷ [])) ∷ t) first
-      (counted-after (r ∷ []) r (counter_of (group r front) 0) rs (self r, tt) (own_counted r [] ∙ first) s)
+      (counted_after_lem (r ∷ []) r (counter_of (group r front) 0) rs (self r, tt) (own_counted r [] ∙ first) s)
     where
       first : suc (count (group r) []) ≡ counter_of (group r front) 0
       first = earlier_none r (group r front)
@@ -131,11 +131,11 @@ module _ (p : ℕ) (keys : Keys) where
   unfolding rising order_of
   not_before x e k h = by_cases (before (cell x p) (cell e p)) (λ b. clash (rw (k, b)) h) (λ b. b)
 
-  group-apart :
+  group_apart :
       (e x r : Row) → rising (order_of p keys) x e ≡ false → rising (order_of p keys) r x ≡ false →
       in_group p r x ≡ false → in_group p r e ≡ false
   unfolding in_group
-  group-apart e x r h k d =
+  group_apart e x r h k d =
       by_cases (eqb p 255)
       (λ z. clash (rw z) d)
       (λ z. by_cases (same (cell r p) (cell e p))
@@ -143,11 +143,11 @@ module _ (p : ℕ) (keys : Keys) where
       (ap (before (cell x p)) (same_eq (cell r p) (cell e p) q) ∙ not_before x e z h)) (sym (rw z) ∙ d))
       (λ q. rw (z, q)))
 
-  pub counted-group :
+  pub counted_group :
       (front : Row) (t : Table) → Sorted (rising (order_of p keys)) t →
       numbered_after (in_group p) [] t ≡ counted_from (in_group p) front 0 t
-  counted-group =
-      counted-numbered (in_group p) (rising (order_of p keys)) (rising_weak (order_of p keys))
+  counted_group =
+      counted_numbered (in_group p) (rising (order_of p keys)) (rising_weak (order_of p keys))
       group_own
       group_alike
-      group-apart
+      group_apart

@@ -1,7 +1,7 @@
 -- What RN owes in each of its answers.
 --     owed_none      a table with no row
 --     owed_full      the rows with one cell more pass the room
---     owed-laid      the rows laid in the order of the sorted numbers, each with its counter
+--     owed_laid      the rows laid in the order of the sorted numbers, each with its counter
 --     low, product, few      sizes that follow from the room
 use Prim.Native.Nat.{ℕ, zero, suc, ◌+◌, ◌-◌, ◌*◌, ◌≤◌, ◌<◌}
 use mathlib.Core.Path.{◌≡◌, refl, sym, ap, ◌∙◌}
@@ -28,7 +28,7 @@ use Rattle.row_order.specs.declared.Keys.TheVariants.{One, Two}
 use Rattle.row_order.specs.Order.{columns_of, order_of, stands_before, KeyColumns, Low}
 use Rattle.numbering.specs.Numbered.{row_of, numbered_rows}
 use Rattle.numbering.proofs.Counting.{wide_counted}
-use Rattle.numbering.proofs.Sorted.{columns_within, numbered_rows_lem, numbers_within, rows-wide}
+use Rattle.numbering.proofs.Sorted.{columns_within, numbered_rows_lem, numbers_within, rows_wide}
 
 pub positive : (n : ℕ) → (n ≡ 0 → ⊥) → 0 < n
 positive zero h = absurd (h refl)
@@ -89,15 +89,15 @@ module _ (xs : List ℤ) (s : Stand) (p : ℕ) (keys : Keys) (room at : ℕ) whe
   owed_full h = record { table = result; made_is = refl; past = rw length_number h; long = refl }
 
   -- ns: the numbers of the rows, sorted
-  pub owed-laid :
+  pub owed_laid :
       KeyColumns s.width p keys → (ns : List ℕ) (ys : List ℤ) → s.at + s.rows * s.width ≤ length xs →
       at + s.rows * (s.width + 1) ≤ room → ns ≡ sort (stands_before xs s (order_of p keys)) (below s.rows) →
       ys ≡ laid xs at (flat (numbered_rows xs s p ns)) →
       Owes room at (s.width + 1) (gives result) xs ys (Rows s.rows)
   unfolding Owes
-  owed-laid suits ns ys inside fit sorted e =
+  owed_laid suits ns ys inside fit sorted e =
       let is : result ≡ numbered_rows xs s p ns = numbered_rows_lem xs s p keys suits ns sorted in
-      let wide = rows-wide xs s inside ns (numbers_within xs s p keys suits ns sorted) in
+      let wide = rows_wide xs s inside ns (numbers_within xs s p keys suits ns sorted) in
       record {
         table = numbered_rows xs s p ns;
         made_is = ap gives is;

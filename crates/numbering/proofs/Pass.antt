@@ -17,12 +17,12 @@ use lib.Seq.{drop-append-le, take-append-le, length-take-le}
 use Rattle.laws.specs.Lists.{gather}
 use Rattle.laws.specs.Rows.{row, laid, flat}
 use Rattle.laws.proofs.Booleans.{by_cases}
-use Rattle.laws.proofs.Rows.{laid_nothing, laid_more, length-laid, take_laid, length_row, length_snoc}
+use Rattle.laws.proofs.Rows.{laid_nothing, laid_more, length_laid, take_laid, length_row, length_snoc}
 use Rattle.meaning.specs.Operators.{Row, Table, cell, in_group}
 use Rattle.tables.specs.declared.Stand.{Stand}
 use Rattle.row_order.specs.Order.{from}
 use Rattle.numbering.specs.Numbered.{row_of, counter_of, counted_from, numbered_rows, Layable}
-use Rattle.laws.proofs.Places.{rest-cons}
+use Rattle.laws.proofs.Places.{rest_cons}
 use Rattle.numbering.proofs.Sorted.{cell_row, row_end}
 
 module _ {A : Type 0} where
@@ -119,10 +119,10 @@ module _ (xs : List ℤ) (s : Stand) (p : ℕ) (ns : List ℕ) (at : ℕ) where
     cell_kept k h e =
         cell_row ys (s.at + k * s.width) s.width p e ∙ ap (λ (r : Row). cell r p) (table_kept k h)
 
-    group-kept :
+    group_kept :
         (k : ℕ) → k < s.rows → in_group p (from ys s k) (from ys s last) ≡ in_group p (row_of xs s k) (row_of xs s last)
     unfolding in_group
-    group-kept k h =
+    group_kept k h =
         by_cases (eqb p 255)
         (λ e. rw e)
         (λ e. rw (e, cell_kept k h (ready.column e), cell_kept last l.near (ready.column e)))
@@ -157,8 +157,8 @@ module _ (xs : List ℤ) (s : Stand) (p : ℕ) (ns : List ℕ) (at : ℕ) where
       unfolding counted_from flat gather one
       rest_one =
           let e : d ≡ counter_of (in_group p (row_of xs s k) (row_of xs s last)) c =
-          counts ∙ ap (λ (b : Bool). counter_of b c) (group-kept k k_within) in
-          rw (rest-cons ns i s.rows 0 more ready.numbers, ← next, ← e)
+          counts ∙ ap (λ (b : Bool). counter_of b c) (group_kept k k_within) in
+          rw (rest_cons ns i s.rows 0 more ready.numbers, ← next, ← e)
 
       laid_one : row ys a s.width ++ (pos d ∷ []) ≡ one
       unfolding one
@@ -176,7 +176,7 @@ module _ (xs : List ℤ) (s : Stand) (p : ℕ) (ns : List ℕ) (at : ℕ) where
             begun = omega arith;
             place = next_place;
             behind = omega (arith, l.behind);
-            long = ap length now ∙ length-laid ys to one fit ∙ l.long;
+            long = ap length now ∙ length_laid ys to one fit ∙ l.long;
             kept = ap (take at) now ∙ take_laid ys to one at l.behind (omega arith) ∙ l.kept;
             small = d_small;
             near = k_within;

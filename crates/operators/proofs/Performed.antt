@@ -19,7 +19,7 @@ use Rattle.rowwise.specs.declared.Task.TheVariants as Task
 use Rattle.tables.specs.Layout.{table_at, Owes}
 use Rattle.rowwise.specs.Tasks.{made, wider}
 use Rattle.tables.proofs.Promise.{owes_is}
-use Rattle.rowwise.proofs.Operators.{makes_RA, makes-RP, makes_RD, makes_RS, makes-RF, makes_RV}
+use Rattle.rowwise.proofs.Operators.{makes_RA, makes_RP, makes_RD, makes_RS, makes_RF, makes_RV}
 use Rattle.whole.proofs.Makes.{makes_RT, makes_RU, makes_RK, makes_RO}
 use Rattle.plan_records.specs.declared.Operator.{Operator}
 use Rattle.plan_records.specs.declared.Operator.TheVariants as Operator
@@ -28,7 +28,7 @@ use Rattle.plan_widths.specs.Widths as Widths
 use Rattle.directory.specs.Directory.{stand_at, tables_in}
 use Rattle.directory.proofs.Entries.{table_of_lem}
 use Rattle.directory.specs.Sound.{wide, made_of, made_width, SoundOf, SoundOperator}
-use Rattle.directory.proofs.Cases.{sound_case, owes-case}
+use Rattle.directory.proofs.Cases.{sound_case, owes_case}
 
 module _ (room at n : ℕ) (plan dir : List ℕ) (c : Catalogue) (xs ys : List ℤ) (r : Laid) (o : Operator)
     (sound : SoundOperator plan dir n o) where
@@ -47,7 +47,7 @@ module _ (room at n : ℕ) (plan dir : List ℕ) (c : Catalogue) (xs ys : List �
       make (world_of c) (operator_of plan k) ts ≡ m
       → Owes room at w m xs ys r → Performed
   performed k e w m p q h =
-      owes-case o k e room at plan dir (world_of c) ts xs ys r
+      owes_case o k e room at plan dir (world_of c) ts xs ys r
       (owes_is room at (made_width dir k) xs ys r q (subst (λ (v : ℕ). Owes room at v m xs ys r) (sym p) h))
 
   pub one_made : o ≡ Operator.One → Owes room at 1 (gives ((pos 1 ∷ []) ∷ [])) xs ys r → Performed
@@ -75,7 +75,7 @@ module _ (room at n : ℕ) (plan dir : List ℕ) (c : Catalogue) (xs ys : List �
     unfolding made_width made_of Widths.tables_of Widths.made_width operator_of SoundOperator SoundOf wider
     project_made m k e h =
         let s = sound_case o (Operator.Project t m k) e plan dir n sound in
-        performed (Operator.Project t m k) e _ _ refl (makes-RP plan c xs ts t (stand_at dir t) (names t s.0) m k) h
+        performed (Operator.Project t m k) e _ _ refl (makes_RP plan c xs ts t (stand_at dir t) (names t s.0) m k) h
 
     pub select_made : (k : ℕ) → o ≡ Operator.Select t k
         → Owes room at (wider (wide dir t) (Task.Select k)) (each (made plan c xs (Task.Select k))
@@ -91,7 +91,7 @@ module _ (room at n : ℕ) (plan dir : List ℕ) (c : Catalogue) (xs ys : List �
     unfolding made_width made_of Widths.tables_of Widths.made_width operator_of SoundOperator SoundOf wider
     apply_made f k d e h =
         let s = sound_case o (Operator.Apply t f k d) e plan dir n sound in
-        performed (Operator.Apply t f k d) e _ _ refl (makes-RF plan c xs ts t (stand_at dir t) (names t s.0) f k d) h
+        performed (Operator.Apply t f k d) e _ _ refl (makes_RF plan c xs ts t (stand_at dir t) (names t s.0) f k d) h
 
     pub value_made : (k : ℕ) → o ≡ Operator.Value t k
         → Owes room at (wider (wide dir t) (Task.Value k)) (each (made plan c xs (Task.Value k)) (at_table t)) xs ys r →

@@ -1,7 +1,7 @@
 -- The order theorem.
 --     plan_operators       the operators of the plan that the translator leaves are the query's
 --     RunEnded w q ts      where a run of q's plan gives tables ts: the items that q means, placed in the last of them
---     order-free           no plan that the translator writes leans on how rows stand
+--     order_free_lem           no plan that the translator writes leans on how rows stand
 use Prim.Native.Nat.{ℕ}
 use mathlib.Core.Path.{◌≡◌, sym, ap, ◌∙◌, subst}
 use mathlib.Core.List.{List, [], ◌∷◌, map}
@@ -25,7 +25,7 @@ use Rattle.theorems.specs.Closed.{Closed}
 use Rattle.theorems.proofs.Counted.{running_done, running_failed}
 use Rattle.theorems.proofs.Nodes.{lawful}
 use Rattle.theorems.specs.Nodes.{Lawful}
-use Rattle.theorems.proofs.PlanRead.{query-plan-back, translated}
+use Rattle.theorems.proofs.PlanRead.{query_plan_back, translated}
 use Rattle.theorems.specs.PlanRead.{TranslatedPlan}
 use Rattle.agreement.specs.Typed.{sem_plan}
 use Rattle.agreement.specs.Families.{placed, SameItems, both_give, both_fail}
@@ -50,7 +50,7 @@ plan_operators : (query doc : List ℕ) → Bytes query → (i : Passed query do
 plan_operators query doc bytes i lent n m e ps r =
     let t : TranslatedPlan query lent n m = translated query lent n m e in
     let (qs, back) =
-    query-plan-back query t.read bytes t.accepted (omega (arith, t.operators, t.within)) in
+    query_plan_back query t.read bytes t.accepted (omega (arith, t.operators, t.within)) in
     ap (map (λ (p : Placed). p.op)) (reads_same (sym r ∙ ap plan_read t.bytes ∙ back.back))
     ∙ back.ops
     ∙ ap (λ (x : Read). plan x.tree) (reads_same (sym t.accepted ∙ i.query_reads))
@@ -94,14 +94,14 @@ items_moved xs t u e d =
 done_same : {x y : Filled} → done x ≡ done y → x ≡ y
 done_same e = cc
 
-pub order-free :
+pub order_free_lem :
     (query doc : List ℕ) → Bytes query → (i : Passed query doc) (lent n m : ℕ)
     → (translate_call query lent).answer ≡ Calls.gives (n ∷ m ∷ [])
     → (ps : List Placed) → plan_read (take m (translate_call query lent).left) ≡ reads ps
     → (room : ℕ) (hand : Hand) → Shuffles hand
     → Unmoved (means i) (running (world_of i.catalogue) room ps [] 0)
     (running_by hand (world_of i.catalogue) room ps [] 0)
-order-free query doc bytes i lent n m e ps r room hand shuffles =
+order_free_lem query doc bytes i lent n m e ps r room hand shuffles =
     record {
       same = work;
       read = λ us k d. read us k d work;

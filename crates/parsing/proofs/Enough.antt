@@ -1,7 +1,7 @@
 -- The readers of any two numbers that reach the text's length answer alike on it, so that `left` limits nothing.
 --     enough                     the readers of a and b bytes answer alike on texts shorter than n, where n is neither
 --                                above a nor above b
---     expr_enough, single_enough, items_enough, terms_enough, factors-enough, steps_enough
+--     expr_enough, single_enough, items_enough, terms_enough, factors_enough, steps_enough
 --                                .. the readers of each kind on a text of at most a and at most b bytes
 use Prim.Native.Nat.{ℕ, zero, suc, ◌≤◌, ◌<◌}
 use mathlib.Core.Path.{◌≡◌, refl, ap}
@@ -16,7 +16,7 @@ use Rattle.parsing.specs.Reader.{Res, ok, stuck, Reader, Readers, readers, read_
 use Rattle.parsing.specs.Reader.{more_terms, more_factors, more_steps}
 use Rattle.parsing.proofs.Local.{Likeness, Alike, passed, halted, gone, Local}
 use Rattle.parsing.proofs.LocalParts.{Inner}
-use Rattle.parsing.proofs.LocalReader.{same, inner-next, inner_any}
+use Rattle.parsing.proofs.LocalReader.{same, inner_next, inner_any}
 
 -- of no text at all any two readers are alike
 module _ {x : Likeness} {n : ℕ} where
@@ -38,7 +38,7 @@ pub enough : {x : Likeness} (n a b : ℕ) → n ≤ a → n ≤ b → Inner x n 
 enough zero a b h k = inner_none (inner_any a zero)
 enough (suc n) zero b h k = absurd (omega arith)
 enough (suc n) (suc a) zero h k = absurd (omega arith)
-enough (suc n) (suc a) (suc b) h k = inner-next a b (enough n a b (omega arith) (omega arith))
+enough (suc n) (suc a) (suc b) h k = inner_next a b (enough n a b (omega arith) (omega arith))
 
 alike_same : {A : Type 0} {r r' : Res A} → Alike same r r' → r ≡ r'
 alike_same (passed a e) = ap (ok a) e
@@ -65,9 +65,9 @@ module _ (a b : ℕ) (t : List ℕ) (fits : length t ≤ a) (fits' : length t �
     pub terms_enough : (d : ℕ) (c : Bool) → more_terms (readers a) d e c xs m t ≡ more_terms (readers b) d e c xs m t
     terms_enough d c = local_same (inner_same.terms d e c xs m) t (omega arith)
 
-    pub factors-enough :
+    pub factors_enough :
         (d : ℕ) (c : Bool) → more_factors (readers a) d e c xs m t ≡ more_factors (readers b) d e c xs m t
-    factors-enough d c = local_same (inner_same.factors d e c xs m) t (omega arith)
+    factors_enough d c = local_same (inner_same.factors d e c xs m) t (omega arith)
 
     pub steps_enough : (c : Bool) → more_steps (readers a) e c xs m t ≡ more_steps (readers b) e c xs m t
     steps_enough c = local_same (inner_same.steps e c xs m) t (omega arith)

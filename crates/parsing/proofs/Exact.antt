@@ -5,7 +5,7 @@
 --     Refused t p       t is refused at p: the bytes before, those behind, the reader stuck between
 --     refused_parts     a refused text has these parts
 --     refused_before    .. the first are as many as the place says
---     still-refused     a text that is refused at p is refused at p whatever comes behind the byte there
+--     still_refused     a text that is refused at p is refused at p whatever comes behind the byte there
 --     begins_take       what begins a text of the grammar does so cut anywhere
 --     place_only        no text is outside the grammar at two places
 --     Reads             the three facts
@@ -51,36 +51,36 @@ whole_enough : (a b : ℕ) (t : List ℕ) → length t ≤ a → length t ≤ b 
 unfolding whole
 whole_enough a b t h k = expr_enough a b t h k most_groups WithText symbol
 
-whole-stuck :
+whole_stuck :
     (most : ℕ) (s : List ℕ) (c : ℕ) (w w' : List ℕ)
     → whole most (s ++ (c ∷ w)) ≡ stuck (c ∷ w) → whole most (s ++ (c ∷ w')) ≡ stuck (c ∷ w')
 unfolding whole
-whole-stuck most s c w w' e = expr_stuck most most_groups WithText symbol s c w w' e
+whole_stuck most s c w w' e = expr_stuck most most_groups WithText symbol s c w w' e
 
 answer_nine : (n k p : ℕ) (r : Res Went) → answer n r ≡ refuses k p → k ≡ 9
 answer_nine n k p (ok w u) e = absurd (refuses_reads k p w.made (sym e))
 answer_nine n k p (stuck u) e = cc
 
-answer-stuck :
+answer_stuck :
     (n k p : ℕ) (r : Res Went) → answer n r ≡ refuses k p → (r ≡ stuck (left r)) × (p ≡ n - length (left r))
-answer-stuck n k p (ok w u) e = absurd (refuses_reads k p w.made (sym e))
-answer-stuck n k p (stuck u) e = (refl, cc)
+answer_stuck n k p (ok w u) e = absurd (refuses_reads k p w.made (sym e))
+answer_stuck n k p (stuck u) e = (refl, cc)
 
 pub nine : (t : List ℕ) (k p : ℕ) → read t ≡ refuses k p → k ≡ 9
 nine t k p e = answer_nine (length t) k p (whole (length t) t) (sym (read_whole t) ∙ e)
 
 -- A refusal stands whatever comes behind its place
 
-refused-there :
+refused_there :
     (s : List ℕ) (c : ℕ) (w more : List ℕ) → whole (length (s ++ (c ∷ w))) (s ++ (c ∷ w)) ≡ stuck (c ∷ w)
     → read (s ++ (c ∷ more)) ≡ refuses 9 (length s)
-refused-there s c w more e =
+refused_there s c w more e =
     let t : List ℕ = s ++ (c ∷ w) in
     let t' : List ℕ = s ++ (c ∷ more) in
     let n : ℕ = length t + length t' in
     let far : whole n t ≡ stuck (c ∷ w) = whole_enough n (length t) t (omega arith) (omega arith) ∙ e in
     let there : whole (length t') t' ≡ stuck (c ∷ more) =
-    whole_enough (length t') n t' (omega arith) (omega arith) ∙ whole-stuck n s c w more far
+    whole_enough (length t') n t' (omega arith) (omega arith) ∙ whole_stuck n s c w more far
     in
     let at : length t' - length (c ∷ more) ≡ length s = simp length-append (omega arith) in
     read_whole t' ∙ ap (answer (length t')) there ∙ ap (refuses 9) at
@@ -101,7 +101,7 @@ pub refused_parts : (t : List ℕ) (k p : ℕ) → read t ≡ refuses k p → Re
 refused_parts t k p e =
     let r : Res Went = whole (length t) t in
     let found : (r ≡ stuck (left r)) × (p ≡ length t - length (left r)) =
-    answer-stuck (length t) k p r (sym (read_whole t) ∙ e)
+    answer_stuck (length t) k p r (sym (read_whole t) ∙ e)
     in
     let cuts : (s : List ℕ) × (t ≡ s ++ left r) = suffix_parts (whole_behind (length t) t) in
     let long : length t ≡ length cuts.0 + length (left r) =
@@ -113,10 +113,10 @@ pub refused_before : (t : List ℕ) (p : ℕ) (r : Refused t p) → take p t ≡
 refused_before t p r =
     ap (take p) r.parts ∙ take_at r.before r.after p r.seam
 
-pub still-refused :
+pub still_refused :
     (t : List ℕ) (k p : ℕ) → read t ≡ refuses k p → p < length t → (more : List ℕ)
     → read (take (suc p) t ++ more) ≡ refuses 9 p
-still-refused t k p e h more =
+still_refused t k p e h more =
     let r : Refused t p = refused_parts t k p e in
     go r.before r.after r.parts r.seam r.stops
   where
@@ -129,7 +129,7 @@ still-refused t k p e h more =
         ap₂ (λ (n : ℕ) (l : List ℕ). take (suc n) l ++ more) (sym seam) parts ∙ cut s c w more
         in
         ap read begun
-        ∙ refused-there s c w more (subst (λ (l : List ℕ). whole (length l) l ≡ stuck (c ∷ w)) parts stops)
+        ∙ refused_there s c w more (subst (λ (l : List ℕ). whole (length l) l ≡ stuck (c ∷ w)) parts stops)
         ∙ ap (refuses 9) seam
 
 -- What the grammar says of places
@@ -174,7 +174,7 @@ module _ (facts : Reads) where
         begins = (facts.viable t p e).1;
         ends = λ h b.
             refuses_reads 9 p b.bytes
-            (sym (still-refused t 9 p e h b.more)
+            (sym (still_refused t 9 p e h b.more)
             ∙ facts.complete (take (suc p) t ++ b.more) b.bytes b.typed);
       }
 

@@ -126,38 +126,38 @@ within_less n m (ok a u) h k = omega arith
 within_less n m (stuck u) h k = tt
 
 module _ {x : Likeness} {A B : Type 0} {f f' : A → Reader B} where
-  then-behind :
+  then_behind :
       {n : ℕ} → ((a : A) → Local x n (f a) (f' a)) → (r : Res A) → Suffix (left (then r f)) (left r)
-  then-behind h (ok a u) = (h a).behind u
-  then-behind h (stuck u) = whole
+  then_behind h (ok a u) = (h a).behind u
+  then_behind h (stuck u) = whole
 
-  then-alike :
+  then_alike :
       {n : ℕ} {r r' : Res A}
       → ((a : A) → Local x n (f a) (f' a)) → Alike x r r' → Within n r → Alike x (then r f) (then r' f')
-  then-alike h (passed a l) short = (h a).alike short l
-  then-alike h (halted l) short = halted l
-  then-alike h (gone {r = r} g) short = gone (x.deeper (then-behind h r) g)
+  then_alike h (passed a l) short = (h a).alike short l
+  then_alike h (halted l) short = halted l
+  then_alike h (gone {r = r} g) short = gone (x.deeper (then_behind h r) g)
 
-  pub local-then :
+  pub local_then :
       {n : ℕ} {m m' : Reader A}
       → Local x n m m' → ((a : A) → Local x n (f a) (f' a)) → Local x n (λ t. then (m t) f) (λ t. then (m' t) f')
-  local-then {n} {m} k h =
+  local_then {n} {m} k h =
       record {
         alike = λ {t} short l.
-            then-alike h (k.alike short l)
+            then_alike h (k.alike short l)
             (within_behind n (m t) (omega (arith, suffix_length (k.behind t))));
-        behind = λ t. suffix_both (then-behind h (m t)) (k.behind t);
+        behind = λ t. suffix_both (then_behind h (m t)) (k.behind t);
       }
 
-  pub local-then-shorter :
+  pub local_then_shorter :
       {n : ℕ} {m m' : Reader A}
       → Local x (suc n) m m' → Shrinks m → ((a : A) → Local x n (f a) (f' a))
       → Local x (suc n) (λ t. then (m t) f) (λ t. then (m' t) f')
-  local-then-shorter {n} {m} k shrinks h =
+  local_then_shorter {n} {m} k shrinks h =
       record {
         alike = λ {t} short l.
-            then-alike h (k.alike short l) (within_less (length t) n (m t) (omega arith) (shrinks t));
-        behind = λ t. suffix_both (then-behind h (m t)) (k.behind t);
+            then_alike h (k.alike short l) (within_less (length t) n (m t) (omega arith) (shrinks t));
+        behind = λ t. suffix_both (then_behind h (m t)) (k.behind t);
       }
 
 -- The others
@@ -200,9 +200,9 @@ module _ {x : Likeness} {n : ℕ} {A : Type 0} where
     local_either true h j = h
     local_either false h j = j
 
-    pub local-look :
+    pub local_look :
         (is : ℕ → Bool) → Local x n m m' → Local x n k k' → Local x n (look is m k) (look is m' k')
-    local-look is h j =
+    local_look is h j =
         record {
           alike = λ {t} {t'} short l.
               subst (λ (c : ℕ). Alike x (look is m k t) (either (is c) m' k' t')) (x.same_first l)
@@ -219,40 +219,40 @@ module _ {x : Likeness} {n : ℕ} {A : Type 0} where
           behind = λ t. (local_either (ended t) h j).behind t;
         }
 
-  pub local-byte :
+  pub local_byte :
       (c : ℕ) {m m' k k' : Reader A}
       → Local x n m m' → Local x n k k' → Local x n (byte c m k) (byte c m' k')
-  local-byte c h j = local-look (λ b. eqb b c) (local_past h) j
+  local_byte c h j = local_look (λ b. eqb b c) (local_past h) j
 
-  pub local-allowed :
+  pub local_allowed :
       (may : Bool) (c : ℕ) {m m' k k' : Reader A}
       → Local x n m m' → Local x n k k' → Local x n (allowed may c m k) (allowed may c m' k')
-  local-allowed may c h j = local-look (λ b. may && eqb b c) (local_past h) j
+  local_allowed may c h j = local_look (λ b. may && eqb b c) (local_past h) j
 
   pub local_entry : (k : Kind) {m m' : Reader A} → Local x n m m' → Local x n (entry k m) (entry k m')
-  local_entry k h = local-look is_space (local_skip h) (local-look (joins k) local_halt h)
+  local_entry k h = local_look is_space (local_skip h) (local_look (joins k) local_halt h)
 
 -- past a byte that is there
 
 module _ {x : Likeness} {n : ℕ} {A : Type 0} where
-  either-shorter :
+  either_shorter :
       {m m' k k' : Reader A} (is : ℕ → Bool) → is 256 ≡ false → (b : Bool) (t t' : List ℕ) → is (first t) ≡ b
       → Local x n m m' → Local x (suc n) k k' → length t < suc n → x.like t t'
       → Alike x (either b (past m) k t) (either b (past m') k' t')
   unfolding first rest
-  either-shorter is none true [] t' e h j short l = clash e none
-  either-shorter is none true (a ∷ t) t' e h j short l =
+  either_shorter is none true [] t' e h j short l = clash e none
+  either_shorter is none true (a ∷ t) t' e h j short l =
       ⊎_elim (λ k. h.alike (omega arith) k) (λ g. gone (x.deeper (h.behind t) g)) (x.onward l)
-  either-shorter is none false t t' e h j short l = j.alike short l
+  either_shorter is none false t t' e h j short l = j.alike short l
 
-  pub local-look-shorter :
+  pub local_look_shorter :
       (is : ℕ → Bool) {m m' k k' : Reader A} → is 256 ≡ false → Local x n m m' → Local x (suc n) k k'
       → Local x (suc n) (look is (past m) k) (look is (past m') k')
-  local-look-shorter is {m} {m'} {k} {k'} none h j =
+  local_look_shorter is {m} {m'} {k} {k'} none h j =
       record {
         alike = λ {t} {t'} short l.
             subst (λ (c : ℕ). Alike x (look is (past m) k t) (either (is c) (past m') k' t')) (x.same_first l)
-            (either-shorter is none (is (first t)) t t' refl h j short l);
+            (either_shorter is none (is (first t)) t t' refl h j short l);
         behind = λ t. go t (is (first t));
       }
     where
@@ -260,7 +260,7 @@ module _ {x : Likeness} {n : ℕ} {A : Type 0} where
       go t true = suffix_both (h.behind (rest t)) (suffix_rest t)
       go t false = j.behind t
 
-  pub local-byte-shorter :
+  pub local_byte_shorter :
       (c : ℕ) {m m' k k' : Reader A} → eqb 256 c ≡ false → Local x n m m' → Local x (suc n) k k'
       → Local x (suc n) (byte c m k) (byte c m' k')
-  local-byte-shorter c none h j = local-look-shorter (λ b. eqb b c) none h j
+  local_byte_shorter c none h j = local_look_shorter (λ b. eqb b c) none h j

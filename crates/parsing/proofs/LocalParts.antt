@@ -21,12 +21,12 @@ use Rattle.parsing.specs.Reader.{Readers, turn, read_truth, read_false, read_roo
 use Rattle.parsing.specs.Reader.{read_primary, more_steps, read_path, more_factors, read_product, more_terms, read_sum}
 use Rattle.parsing.specs.Reader.{more_sides, read_sides, read_binding, read_choice, read_single, more_items, read_expr}
 use Rattle.parsing.specs.Reader.{read_axis, read_step}
-use Rattle.parsing.proofs.Local.{Likeness, Local, local-then, local_give, local_halt}
-use Rattle.parsing.proofs.Local.{local_less, local_either, local-byte, local_entry}
+use Rattle.parsing.proofs.Local.{Likeness, Local, local_then, local_give, local_halt}
+use Rattle.parsing.proofs.Local.{local_less, local_either, local_byte, local_entry}
 use Rattle.parsing.proofs.LocalWords.{local_letters, local_word, local_spelled, local_brackets, local_number}
 use Rattle.parsing.proofs.LocalWords.{local_variable, local_test, local_next}
-use Rattle.parsing.proofs.LocalTakes.{Takes, takes-then, takes_halt, takes-either, takes_entry, takes-byte}
-use Rattle.parsing.proofs.LocalTakes.{takes-letters, takes-digits, local-behind}
+use Rattle.parsing.proofs.LocalTakes.{Takes, takes_then, takes_halt, takes_either, takes_entry, takes_byte}
+use Rattle.parsing.proofs.LocalTakes.{takes_letters, takes_digits, local_behind}
 
 pub record Inner (x : Likeness) (n : ℕ) (rd rd' : Readers) : Type 0 where
   pub expr : (d : ℕ) (e : Ends) (k : Kind) → Local x n (rd.expr d e k) (rd'.expr d e k)
@@ -50,14 +50,14 @@ module _ {x : Likeness} {n : ℕ} where
   local_went xs m = local_give (record { made = xs; next = m })
 
   -- a chain: its side has read a byte, so again comes with fewer
-  pub local-turn :
+  pub local_turn :
       {side side' : Kind → Reader Went} {again again' : List ℕ → Next → Reader Went} (i : ℕ)
       → ((k : Kind) → Takes x (suc n) (side k) (side' k))
       → ((xs : List ℕ) (m : Next) → Local x n (again xs m) (again' xs m))
       → (xs : List ℕ) (m : Next) → Local x (suc n) (turn i side again xs m) (turn i side' again' xs m)
-  local-turn i side again xs m =
+  local_turn i side again xs m =
       local_either (eqb (tightness m) i)
-      (local-behind (side (kind_of m))
+      (local_behind (side (kind_of m))
       (λ w. again (operation m ++ (xs ++ w.made)) w.next))
       (local_give (record { made = xs; next = m }))
 
@@ -65,173 +65,173 @@ module _ {x : Likeness} {n : ℕ} where
 
   pub takes_axis : Takes x (suc n) read_axis read_axis
   takes_axis =
-      takes-byte 99 refl (local_spelled (104 ∷ 105 ∷ 108 ∷ 100 ∷ []) Child)
-      (takes-byte 100 refl
-      (local-then (local_letters (101 ∷ 115 ∷ 99 ∷ 101 ∷ 110 ∷ 100 ∷ 97 ∷ 110 ∷ 116 ∷ []))
+      takes_byte 99 refl (local_spelled (104 ∷ 105 ∷ 108 ∷ 100 ∷ []) Child)
+      (takes_byte 100 refl
+      (local_then (local_letters (101 ∷ 115 ∷ 99 ∷ 101 ∷ 110 ∷ 100 ∷ 97 ∷ 110 ∷ 116 ∷ []))
       (λ done.
-      local-byte 45 (local_spelled (111 ∷ 114 ∷ 45 ∷ 115 ∷ 101 ∷ 108 ∷ 102 ∷ []) DescendantOrSelf)
+      local_byte 45 (local_spelled (111 ∷ 114 ∷ 45 ∷ 115 ∷ 101 ∷ 108 ∷ 102 ∷ []) DescendantOrSelf)
       (local_give Descendant)))
-      (takes-byte 115 refl (local_spelled (101 ∷ 108 ∷ 102 ∷ []) Itself)
-      (takes-byte 112 refl
-      (local-byte 97 (local_spelled (114 ∷ 101 ∷ 110 ∷ 116 ∷ []) Parent)
-      (local-byte 114 (local_spelled (101 ∷ 99 ∷ 101 ∷ 100 ∷ 105 ∷ 110 ∷ 103 ∷ []) Preceding) local_halt))
-      (takes-byte 97 refl (local_spelled (110 ∷ 99 ∷ 101 ∷ 115 ∷ 116 ∷ 111 ∷ 114 ∷ []) Ancestor)
-      (takes-byte 102 refl (local_spelled (111 ∷ 108 ∷ 108 ∷ 111 ∷ 119 ∷ 105 ∷ 110 ∷ 103 ∷ []) Following)
+      (takes_byte 115 refl (local_spelled (101 ∷ 108 ∷ 102 ∷ []) Itself)
+      (takes_byte 112 refl
+      (local_byte 97 (local_spelled (114 ∷ 101 ∷ 110 ∷ 116 ∷ []) Parent)
+      (local_byte 114 (local_spelled (101 ∷ 99 ∷ 101 ∷ 100 ∷ 105 ∷ 110 ∷ 103 ∷ []) Preceding) local_halt))
+      (takes_byte 97 refl (local_spelled (110 ∷ 99 ∷ 101 ∷ 115 ∷ 116 ∷ 111 ∷ 114 ∷ []) Ancestor)
+      (takes_byte 102 refl (local_spelled (111 ∷ 108 ∷ 108 ∷ 111 ∷ 119 ∷ 105 ∷ 110 ∷ 103 ∷ []) Following)
       takes_halt)))))
 
   pub takes_step : Takes x (suc n) read_step read_step
   takes_step =
-      takes-then (takes_entry symbol takes_axis)
+      takes_then (takes_entry symbol takes_axis)
       (λ a.
-      local-then (local_word word axis_sign)
-      (λ done. local-then (local_entry symbol local_test) (λ p. local_give (record { along = a; passing = p }))))
+      local_then (local_word word axis_sign)
+      (λ done. local_then (local_entry symbol local_test) (λ p. local_give (record { along = a; passing = p }))))
 
   -- Operands
 
   pub local_truth : (b : Bool) (cs : List ℕ) → Local x n (read_truth b cs) (read_truth b cs)
   local_truth b cs =
-      local-then (local_letters cs) (λ done. local_brackets (record { made = record_qb b; kind = symbol }))
+      local_then (local_letters cs) (λ done. local_brackets (record { made = record_qb b; kind = symbol }))
 
   pub takes_false : Takes x (suc n) read_false read_false
   takes_false =
-      takes-then (takes-letters 97 (108 ∷ 115 ∷ 101 ∷ []) refl)
+      takes_then (takes_letters 97 (108 ∷ 115 ∷ 101 ∷ []) refl)
       (λ done. local_brackets (record { made = record_qb false; kind = symbol }))
 
   pub local_root : Local x n read_root read_root
   local_root =
-      local-then (local_word word open_sign)
+      local_then (local_word word open_sign)
       (λ opened.
-      local-then (local_entry symbol (local_number 255))
+      local_then (local_entry symbol (local_number 255))
       (λ k.
       local_either (eqb k 0) local_halt
-      (local-then (local_word word close_sign) (λ closed. local_operand (record_qr k) symbol))))
+      (local_then (local_word word close_sign) (λ closed. local_operand (record_qr k) symbol))))
 
 module _ {x : Likeness} {n : ℕ} {rd rd' : Readers} (inner : Inner x n rd rd') where
   local_deeper : (d : ℕ) → Local x n (read_deeper rd d) (read_deeper rd' d)
   local_deeper zero = local_halt
-  local_deeper (suc d) = local-then (inner.expr d WithList symbol) (λ w. local_operand w.made symbol)
+  local_deeper (suc d) = local_then (inner.expr d WithList symbol) (λ w. local_operand w.made symbol)
 
   local_group : (d : ℕ) → Local x n (read_group rd d) (read_group rd' d)
-  local_group d = local_entry symbol (local-byte 41 (local_operand record_qe symbol) (local_deeper d))
+  local_group d = local_entry symbol (local_byte 41 (local_operand record_qe symbol) (local_deeper d))
 
   local_call : (d : ℕ) (r : List ℕ) → Local x n (read_call rd d r) (read_call rd' d r)
   local_call d r =
-      local-then (local_word word open_sign)
-      (λ done. local-then (inner.single d WithCall symbol) (λ w. local_operand (r ++ w.made) symbol))
+      local_then (local_word word open_sign)
+      (λ done. local_then (inner.single d WithCall symbol) (λ w. local_operand (r ++ w.made) symbol))
 
   takes_primary : (d : ℕ) → Takes x (suc n) (read_primary rd d) (read_primary rd' d)
   takes_primary d =
-      takes-digits 2147483647 (λ v. local_operand (record_ql v) word)
-      (takes-byte 45 refl (local-then (local_number 2147483648) (λ v. local_operand (record_ql (minus_bits v)) word))
-      (takes-byte 36 refl (local-then local_variable (λ v. local_operand (record_qv v) name))
-      (takes-byte 116 refl (local_truth true (114 ∷ 117 ∷ 101 ∷ []))
-      (takes-byte 102 refl (local_truth false (97 ∷ 108 ∷ 115 ∷ 101 ∷ []))
-      (takes-byte 40 refl (local_group d)
-      (takes-byte 114 refl (local-then (local_letters (111 ∷ 111 ∷ 116 ∷ [])) (λ done. local_root))
-      (takes-byte 99 refl
-      (local-then (local_letters (111 ∷ 117 ∷ 110 ∷ 116 ∷ [])) (λ done. local_call d record_qc))
-      (takes-byte 100 refl
-      (local-then (local_letters (97 ∷ 116 ∷ 97 ∷ [])) (λ done. local_call d record_qd))
+      takes_digits 2147483647 (λ v. local_operand (record_ql v) word)
+      (takes_byte 45 refl (local_then (local_number 2147483648) (λ v. local_operand (record_ql (minus_bits v)) word))
+      (takes_byte 36 refl (local_then local_variable (λ v. local_operand (record_qv v) name))
+      (takes_byte 116 refl (local_truth true (114 ∷ 117 ∷ 101 ∷ []))
+      (takes_byte 102 refl (local_truth false (97 ∷ 108 ∷ 115 ∷ 101 ∷ []))
+      (takes_byte 40 refl (local_group d)
+      (takes_byte 114 refl (local_then (local_letters (111 ∷ 111 ∷ 116 ∷ [])) (λ done. local_root))
+      (takes_byte 99 refl
+      (local_then (local_letters (111 ∷ 117 ∷ 110 ∷ 116 ∷ [])) (λ done. local_call d record_qc))
+      (takes_byte 100 refl
+      (local_then (local_letters (97 ∷ 116 ∷ 97 ∷ [])) (λ done. local_call d record_qd))
       takes_halt))))))))
 
   -- Chains
 
-  pub local-steps :
+  pub local_steps :
       (e : Ends) (c : Bool) (xs : List ℕ) (m : Next)
       → Local x (suc n) (more_steps rd e c xs m) (more_steps rd' e c xs m)
-  local-steps e c xs m =
+  local_steps e c xs m =
       local_either (eqb (tightness m) 4)
-      (local-behind takes_step
+      (local_behind takes_step
       (λ s.
-      local-then (local_next e c (test_kind s.passing))
+      local_then (local_next e c (test_kind s.passing))
       (λ l. inner.steps e c (record_qx s.along s.passing ++ xs) l)))
       (local_went xs m)
 
-  takes-path :
+  takes_path :
       (d : ℕ) (e : Ends) (c begun : Bool) (k : Kind)
       → Takes x (suc n) (read_path rd d e c begun k) (read_path rd' d e c begun k)
-  takes-path d e c begun k =
-      takes-then (takes-either begun takes_false (takes_entry k (takes_primary d)))
-      (λ o. local-then (local_next e c o.kind) (λ m. local-steps e c o.made m))
+  takes_path d e c begun k =
+      takes_then (takes_either begun takes_false (takes_entry k (takes_primary d)))
+      (λ o. local_then (local_next e c o.kind) (λ m. local_steps e c o.made m))
 
-  pub local-factors :
+  pub local_factors :
       (d : ℕ) (e : Ends) (c : Bool) (xs : List ℕ) (m : Next)
       → Local x (suc n) (more_factors rd d e c xs m) (more_factors rd' d e c xs m)
-  local-factors d e c = local-turn 3 (takes-path d e c false) (inner.factors d e c)
+  local_factors d e c = local_turn 3 (takes_path d e c false) (inner.factors d e c)
 
-  takes-product :
+  takes_product :
       (d : ℕ) (e : Ends) (c begun : Bool) (k : Kind)
       → Takes x (suc n) (read_product rd d e c begun k) (read_product rd' d e c begun k)
-  takes-product d e c begun k = takes-then (takes-path d e c begun k) (λ w. local-factors d e c w.made w.next)
+  takes_product d e c begun k = takes_then (takes_path d e c begun k) (λ w. local_factors d e c w.made w.next)
 
-  pub local-terms :
+  pub local_terms :
       (d : ℕ) (e : Ends) (c : Bool) (xs : List ℕ) (m : Next)
       → Local x (suc n) (more_terms rd d e c xs m) (more_terms rd' d e c xs m)
-  local-terms d e c = local-turn 2 (takes-product d e c false) (inner.terms d e c)
+  local_terms d e c = local_turn 2 (takes_product d e c false) (inner.terms d e c)
 
-  takes-sum :
+  takes_sum :
       (d : ℕ) (e : Ends) (c begun : Bool) (k : Kind)
       → Takes x (suc n) (read_sum rd d e c begun k) (read_sum rd' d e c begun k)
-  takes-sum d e c begun k = takes-then (takes-product d e c begun k) (λ w. local-terms d e c w.made w.next)
+  takes_sum d e c begun k = takes_then (takes_product d e c begun k) (λ w. local_terms d e c w.made w.next)
 
-  local-sides :
+  local_sides :
       (d : ℕ) (e : Ends) (xs : List ℕ) (m : Next)
       → Local x (suc n) (more_sides rd d e xs m) (more_sides rd' d e xs m)
-  local-sides d e = local-turn 1 (takes-sum d e true false) local_went
+  local_sides d e = local_turn 1 (takes_sum d e true false) local_went
 
-  takes-sides :
+  takes_sides :
       (d : ℕ) (e : Ends) (begun : Bool) (k : Kind)
       → Takes x (suc n) (read_sides rd d e begun k) (read_sides rd' d e begun k)
-  takes-sides d e begun k = takes-then (takes-sum d e false begun k) (λ w. local-sides d e w.made w.next)
+  takes_sides d e begun k = takes_then (takes_sum d e false begun k) (λ w. local_sides d e w.made w.next)
 
   -- Singles
 
-  local-binding :
+  local_binding :
       (d : ℕ) (e : Ends) (r : ℕ → List ℕ) (w : Word)
       → Local x n (read_binding rd d e r w) (read_binding rd' d e r w)
-  local-binding d e r w =
-      local-then (local_word word dollar_sign)
+  local_binding d e r w =
+      local_then (local_word word dollar_sign)
       (λ signed.
-      local-then local_variable
+      local_then local_variable
       (λ v.
-      local-then (local_word name w)
+      local_then (local_word name w)
       (λ done.
-      local-then (inner.single d WithReturn w.kind)
+      local_then (inner.single d WithReturn w.kind)
       (λ a.
-      local-then (inner.single d e word)
+      local_then (inner.single d e word)
       (λ b. local_went (r v ++ (a.made ++ b.made)) b.next)))))
 
   local_choice : (d : ℕ) (e : Ends) → Local x n (read_choice rd d e) (read_choice rd' d e)
   local_choice d e =
-      local-then (local_word word open_sign)
+      local_then (local_word word open_sign)
       (λ opened.
-      local-then (inner.expr d WithList symbol)
+      local_then (inner.expr d WithList symbol)
       (λ c.
-      local-then (local_word symbol then_word)
+      local_then (local_word symbol then_word)
       (λ done.
-      local-then (inner.single d WithElse word)
+      local_then (inner.single d WithElse word)
       (λ a.
-      local-then (inner.single d e word)
+      local_then (inner.single d e word)
       (λ b. local_went (record_qi ++ (c.made ++ (a.made ++ b.made))) b.next)))))
 
-  pub takes-single :
+  pub takes_single :
       (d : ℕ) (e : Ends) (k : Kind) → Takes x (suc n) (read_single rd d e k) (read_single rd' d e k)
-  takes-single d e k =
+  takes_single d e k =
       takes_entry k
-      (takes-byte 102 refl
-      (local-byte 111 (local-then (local_letters (114 ∷ [])) (λ done. local-binding d e record_qf in_word))
-      (local_less (takes-sides d e true symbol).local))
-      (takes-byte 108 refl
-      (local-then (local_letters (101 ∷ 116 ∷ [])) (λ done. local-binding d e record_qt becomes_sign))
-      (takes-byte 105 refl (local-then (local_letters (102 ∷ [])) (λ done. local_choice d e))
-      (takes-sides d e false symbol))))
+      (takes_byte 102 refl
+      (local_byte 111 (local_then (local_letters (114 ∷ [])) (λ done. local_binding d e record_qf in_word))
+      (local_less (takes_sides d e true symbol).local))
+      (takes_byte 108 refl
+      (local_then (local_letters (101 ∷ 116 ∷ [])) (λ done. local_binding d e record_qt becomes_sign))
+      (takes_byte 105 refl (local_then (local_letters (102 ∷ [])) (λ done. local_choice d e))
+      (takes_sides d e false symbol))))
 
   -- Exprs
 
-  pub local-items :
+  pub local_items :
       (d : ℕ) (e : Ends) (xs : List ℕ) (m : Next)
       → Local x (suc n) (more_items rd d e xs m) (more_items rd' d e xs m)
-  local-items d e = local-turn 0 (takes-single d e) (inner.items d e)
+  local_items d e = local_turn 0 (takes_single d e) (inner.items d e)
 
   pub local_expr : (d : ℕ) (e : Ends) (k : Kind) → Local x (suc n) (read_expr rd d e k) (read_expr rd' d e k)
-  local_expr d e k = local-then (takes-single d e k).local (λ w. local-items d e w.made w.next)
+  local_expr d e k = local_then (takes_single d e k).local (λ w. local_items d e w.made w.next)

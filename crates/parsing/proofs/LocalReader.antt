@@ -6,7 +6,7 @@
 --     inner_any          the readers of any `left` are local
 --     stuck_whatever     a local reader that is stuck at c ∷ w is stuck at c ∷ w' where w' comes for w
 --     passed_whatever    .. one that passes and leaves c ∷ w passes and leaves c ∷ w'
---     expr_stuck, expr-passed, expr_behind, expr_parts     .. of the reader of texts
+--     expr_stuck, expr_passed, expr_behind, expr_parts     .. of the reader of texts
 use Prim.Native.Nat.{ℕ, zero, suc, ◌≤◌, ◌<◌}
 use mathlib.Core.Path.{◌≡◌, refl, ap}
 use mathlib.Core.Logic.{◌⊎◌, inl, inr}
@@ -19,22 +19,22 @@ use Rattle.parsing.specs.declared.Ends.{Ends}
 use Rattle.parsing.specs.Reader.{Res, ok, stuck, Reader, rest, ended, Went, Readers, read_expr, readers}
 use Rattle.parsing.proofs.Local.{Suffix, left, Likeness, Alike, passed, halted, gone, Local}
 use Rattle.parsing.proofs.Local.{suffix_length, suffix_parts, local_halt, local_less}
-use Rattle.parsing.proofs.LocalParts.{Inner, local_expr, takes-single, local-items, local-terms, local-factors}
-use Rattle.parsing.proofs.LocalParts.{local-steps}
+use Rattle.parsing.proofs.LocalParts.{Inner, local_expr, takes_single, local_items, local_terms, local_factors}
+use Rattle.parsing.proofs.LocalParts.{local_steps}
 
 -- The readers of any `left`
 
 module _ {x : Likeness} {n : ℕ} where
-  pub inner-next :
+  pub inner_next :
       (a b : ℕ) → Inner x n (readers a) (readers b) → Inner x (suc n) (readers (suc a)) (readers (suc b))
-  inner-next a b inner =
+  inner_next a b inner =
       record {
         expr = local_expr inner;
-        single = λ d e k. (takes-single inner d e k).local;
-        items = local-items inner;
-        terms = local-terms inner;
-        factors = local-factors inner;
-        steps = local-steps inner;
+        single = λ d e k. (takes_single inner d e k).local;
+        items = local_items inner;
+        terms = local_terms inner;
+        factors = local_factors inner;
+        steps = local_steps inner;
       }
 
   pub inner_less : {rd rd' : Readers} → Inner x (suc n) rd rd' → Inner x n rd rd'
@@ -58,8 +58,8 @@ inner_any zero n =
       factors = λ d e c xs m. local_halt;
       steps = λ e c xs m. local_halt;
     }
-inner_any (suc most) zero = inner_less (inner-next most most (inner_any most zero))
-inner_any (suc most) (suc n) = inner-next most most (inner_any most n)
+inner_any (suc most) zero = inner_less (inner_next most most (inner_any most zero))
+inner_any (suc most) (suc n) = inner_next most most (inner_any most n)
 
 -- Equal texts
 
@@ -126,15 +126,15 @@ module _ {A : Type 0} (c : ℕ) (w w' : List ℕ) where
   alike_stuck (halted l) e = ap stuck (like_least l (omega (arith, ap (λ (r : Res A). length (left r)) e)))
   alike_stuck (gone g) e = absurd (omega (arith, g, ap (λ (r : Res A). length (left r)) e))
 
-  alike-passed :
+  alike_passed :
       {r r' : Res A} (a : A) → Alike (place c w w') r r' → r ≡ ok a (c ∷ w) → r' ≡ ok a (c ∷ w')
-  alike-passed a (passed b {t} {t'} l) e =
+  alike_passed a (passed b {t} {t'} l) e =
       let long : length t ≡ suc (length w) = ap (λ (r : Res A). length (left r)) e in
       let end : t' ≡ c ∷ w' = like_least l (omega arith) in
       let again : b ≡ a = cc in
       rw (end, again)
-  alike-passed a (halted l) e = let z : ◌≡◌ {A = ℕ} 0 1 = cc in absurd (omega arith)
-  alike-passed a (gone g) e = absurd (omega (arith, g, ap (λ (r : Res A). length (left r)) e))
+  alike_passed a (halted l) e = let z : ◌≡◌ {A = ℕ} 0 1 = cc in absurd (omega arith)
+  alike_passed a (gone g) e = absurd (omega (arith, g, ap (λ (r : Res A). length (left r)) e))
 
   module _ {f : Reader A} (local : (n : ℕ) → Local (place c w w') n f f) (s : List ℕ) where
     both : Alike (place c w w') (f (s ++ (c ∷ w))) (f (s ++ (c ∷ w')))
@@ -144,7 +144,7 @@ module _ {A : Type 0} (c : ℕ) (w w' : List ℕ) where
     stuck_whatever e = alike_stuck both e
 
     pub passed_whatever : (a : A) → f (s ++ (c ∷ w)) ≡ ok a (c ∷ w) → f (s ++ (c ∷ w')) ≡ ok a (c ∷ w')
-    passed_whatever a e = alike-passed a both e
+    passed_whatever a e = alike_passed a both e
 
 -- The reader of texts
 
@@ -165,8 +165,8 @@ module _ (most d : ℕ) (e : Ends) (k : Kind) where
         → read_expr (readers most) d e k (s ++ (c ∷ w')) ≡ stuck (c ∷ w')
     expr_stuck h = stuck_whatever c w w' expr_local s h
 
-    pub expr-passed :
+    pub expr_passed :
         (a : Went)
         → read_expr (readers most) d e k (s ++ (c ∷ w)) ≡ ok a (c ∷ w)
         → read_expr (readers most) d e k (s ++ (c ∷ w')) ≡ ok a (c ∷ w')
-    expr-passed a h = passed_whatever c w w' expr_local s a h
+    expr_passed a h = passed_whatever c w w' expr_local s a h

@@ -15,8 +15,8 @@ use Rattle.grammar.specs.Spelled.{joins}
 use Rattle.parsing.specs.Reader.{Res, ok, stuck, Reader, then, rest, skip, give, halt, either, look, past, entry}
 use Rattle.parsing.specs.Reader.{byte, letters, numeral}
 use Rattle.parsing.proofs.Local.{Likeness, Local, Within, Shrinks, within_less, within_behind}
-use Rattle.parsing.proofs.Local.{suffix_length, suffix_skip, local-then, local-then-shorter}
-use Rattle.parsing.proofs.Local.{local_halt, local-look, local_entry, local-byte-shorter}
+use Rattle.parsing.proofs.Local.{suffix_length, suffix_skip, local_then, local_then_shorter}
+use Rattle.parsing.proofs.Local.{local_halt, local_look, local_entry, local_byte_shorter}
 use Rattle.parsing.proofs.LocalWords.{numeral_behind, local_letters, local_numeral}
 
 no_digit : is_digit 256 ≡ false
@@ -29,36 +29,36 @@ pub record Takes (x : Likeness) (n : ℕ) {A : Type 0} (f f' : Reader A) : Type 
 
 module _ {x : Likeness} {A B : Type 0} {f f' : A → Reader B} where
   -- .. of what was read before, within the same bytes
-  within-then :
+  within_then :
       {n : ℕ} → ((a : A) → Local x n (f a) (f' a)) → (bound : ℕ) (r : Res A) → Within bound r → Within bound (then r f)
-  within-then h bound (ok a u) k = within_behind bound (f a u) (omega (arith, suffix_length ((h a).behind u)))
-  within-then h bound (stuck u) k = tt
+  within_then h bound (ok a u) k = within_behind bound (f a u) (omega (arith, suffix_length ((h a).behind u)))
+  within_then h bound (stuck u) k = tt
 
   -- behind a byte that was read, for texts shorter by one
-  pub local-behind :
+  pub local_behind :
       {n : ℕ} {m m' : Reader A}
       → Takes x (suc n) m m' → ((a : A) → Local x n (f a) (f' a))
       → Local x (suc n) (λ t. then (m t) f) (λ t. then (m' t) f')
-  local-behind k h = local-then-shorter k.local k.shrinks h
+  local_behind k h = local_then_shorter k.local k.shrinks h
 
-  pub takes-then :
+  pub takes_then :
       {n : ℕ} {m m' : Reader A}
       → Takes x n m m' → ((a : A) → Local x n (f a) (f' a)) → Takes x n (λ t. then (m t) f) (λ t. then (m' t) f')
-  takes-then {m = m} k h =
+  takes_then {m = m} k h =
       record {
-        local = local-then k.local h;
-        shrinks = λ t. within-then h (length t) (m t) (k.shrinks t);
+        local = local_then k.local h;
+        shrinks = λ t. within_then h (length t) (m t) (k.shrinks t);
       }
 
 module _ {x : Likeness} {n : ℕ} {A : Type 0} where
   pub takes_halt : Takes x n {A = A} halt halt
   takes_halt = record { local = local_halt; shrinks = λ t. tt }
 
-  pub takes-either :
+  pub takes_either :
       (b : Bool) {m m' k k' : Reader A}
       → Takes x n m m' → Takes x n k k' → Takes x n (either b m k) (either b m' k')
-  takes-either true h j = h
-  takes-either false h j = j
+  takes_either true h j = h
+  takes_either false h j = j
 
   pub takes_entry : (k : Kind) {m m' : Reader A} → Takes x n m m' → Takes x n (entry k m) (entry k m')
   takes_entry k {m} h =
@@ -76,13 +76,13 @@ module _ {x : Likeness} {n : ℕ} {A : Type 0} where
           within_less (length (skip t)) (length t) (m (skip t)) (suffix_length (suffix_skip t)) (h.shrinks (skip t))
       go t false = beside t (joins k (first t))
 
-  pub takes-byte :
+  pub takes_byte :
       (c : ℕ) {m m' k k' : Reader A} → eqb 256 c ≡ false → Local x n m m' → Takes x (suc n) k k'
       → Takes x (suc n) (byte c m k) (byte c m' k')
   unfolding first rest
-  takes-byte c {m} {m'} {k} none h j =
+  takes_byte c {m} {m'} {k} none h j =
       record {
-        local = local-byte-shorter c none h j.local;
+        local = local_byte_shorter c none h j.local;
         shrinks = λ t. go t (eqb (first t) c) refl;
       }
     where
@@ -112,24 +112,24 @@ shrinks_numeral most v (b ∷ t) e = go (is_digit b) (leb more most) e
     go false fits e = clash e refl
 
 module _ {x : Likeness} {n : ℕ} where
-  pub takes-letters :
+  pub takes_letters :
       (c : ℕ) (cs : List ℕ) → eqb 256 c ≡ false → Takes x (suc n) (letters (c ∷ cs)) (letters (c ∷ cs))
-  takes-letters c cs none = takes-byte c none (local_letters cs) takes_halt
+  takes_letters c cs none = takes_byte c none (local_letters cs) takes_halt
 
-  pub takes-digits :
+  pub takes_digits :
       {A : Type 0} {f f' : ℕ → Reader A} {k k' : Reader A} (most : ℕ)
       → ((v : ℕ) → Local x n (f v) (f' v)) → Takes x n k k'
       → Takes x n
       (look is_digit (λ t. then (numeral most 0 t) f) k)
       (look is_digit (λ t. then (numeral most 0 t) f') k')
-  takes-digits {A} {f} {f'} {k} most h j =
+  takes_digits {A} {f} {f'} {k} most h j =
       record {
-        local = local-look is_digit (local-then (local_numeral most 0) h) j.local;
+        local = local_look is_digit (local_then (local_numeral most 0) h) j.local;
         shrinks = λ t. go t (is_digit (first t)) refl;
       }
     where
       go :
           (t : List ℕ) (b : Bool) → is_digit (first t) ≡ b
           → Within (length t) (either b (λ u. then (numeral most 0 u) f) k t)
-      go t true e = within-then h (length t) (numeral most 0 t) (shrinks_numeral most 0 t e)
+      go t true e = within_then h (length t) (numeral most 0 t) (shrinks_numeral most 0 t e)
       go t false e = j.shrinks t

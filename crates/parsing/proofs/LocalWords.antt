@@ -17,25 +17,25 @@ use Rattle.parsing.specs.Reader.{read_word, spelled, brackets, numeral, number, 
 use Rattle.parsing.specs.Reader.{read_name, read_test, by_text, by_comma, by_close, by_return}
 use Rattle.parsing.specs.Reader.{by_else, read_next}
 use Rattle.parsing.proofs.Local.{Suffix, whole, after, left, Likeness, Alike, passed, halted, gone, Local}
-use Rattle.parsing.proofs.Local.{suffix_rest, local-then, local_give, local_halt}
-use Rattle.parsing.proofs.Local.{local_either, local-look, local_end, local-byte, local-allowed, local_entry}
+use Rattle.parsing.proofs.Local.{suffix_rest, local_then, local_give, local_halt}
+use Rattle.parsing.proofs.Local.{local_either, local_look, local_end, local_byte, local_allowed, local_entry}
 
 module _ {x : Likeness} {n : ℕ} where
   pub local_letters : (cs : List ℕ) → Local x n (letters cs) (letters cs)
   local_letters [] = local_give tt
-  local_letters (c ∷ cs) = local-byte c (local_letters cs) local_halt
+  local_letters (c ∷ cs) = local_byte c (local_letters cs) local_halt
 
   pub local_word : (k : Kind) (w : Word) → Local x n (read_word k w) (read_word k w)
   local_word k w = local_entry k (local_letters w.bytes)
 
   module _ {A : Type 0} where
     pub local_spelled : (cs : List ℕ) (a : A) → Local x n (spelled cs a) (spelled cs a)
-    local_spelled cs a = local-then (local_letters cs) (λ done. local_give a)
+    local_spelled cs a = local_then (local_letters cs) (λ done. local_give a)
 
     pub local_brackets : (a : A) → Local x n (brackets a) (brackets a)
     local_brackets a =
-        local-then (local_word word open_sign)
-        (λ opened. local-then (local_word symbol close_sign) (λ closed. local_give a))
+        local_then (local_word word open_sign)
+        (λ opened. local_then (local_word symbol close_sign) (λ closed. local_give a))
 
 -- Numbers
 
@@ -57,12 +57,12 @@ module _ (most : ℕ) where
       go false fits h = whole
 
   module _ (x : Likeness) where
-    numeral-cons :
+    numeral_cons :
         (v b : ℕ) (t u : List ℕ)
         → (x.like t u → Alike x (numeral most (v * 10 + (b - 48)) t) (numeral most (v * 10 + (b - 48)) u))
         → x.like (b ∷ t) (b ∷ u) → Alike x (numeral most v (b ∷ t)) (numeral most v (b ∷ u))
     unfolding rest
-    numeral-cons v b t u further l = go (is_digit b) (leb more most)
+    numeral_cons v b t u further l = go (is_digit b) (leb more most)
       where
         more : ℕ
         more = v * 10 + (b - 48)
@@ -86,7 +86,7 @@ module _ (most : ℕ) where
         subst
         (λ (e : ℕ). x.like (b ∷ t) (e ∷ u) → Alike x (numeral most v (b ∷ t)) (numeral most v (e ∷ u)))
         (x.same_first l)
-        (numeral-cons v b t u (numeral_alike (v * 10 + (b - 48)) t u)) l
+        (numeral_cons v b t u (numeral_alike (v * 10 + (b - 48)) t u)) l
 
 module _ {x : Likeness} {n : ℕ} where
   pub local_numeral : (most v : ℕ) → Local x n (numeral most v) (numeral most v)
@@ -94,7 +94,7 @@ module _ {x : Likeness} {n : ℕ} where
       record { alike = λ {t} {t'} short l. numeral_alike most x v t t' l; behind = numeral_behind most v }
 
   pub local_number : (most : ℕ) → Local x n (number most) (number most)
-  local_number most = local-look is_digit (local_numeral most 0) local_halt
+  local_number most = local_look is_digit (local_numeral most 0) local_halt
 
   -- the first byte is what is read, and is passed
   local_taken : Local x n (λ t. ok (first t - 97) (rest t)) (λ t. ok (first t - 97) (rest t))
@@ -107,36 +107,36 @@ module _ {x : Likeness} {n : ℕ} where
       }
 
   pub local_variable : Local x n read_variable read_variable
-  local_variable = local_entry symbol (local-look is_variable local_taken local_halt)
+  local_variable = local_entry symbol (local_look is_variable local_taken local_halt)
 
   -- Tests
 
   pub local_name : Local x n read_name read_name
-  local_name = local-byte 48 (local-look is_digit local_halt (local_give 0)) (local_number 65535)
+  local_name = local_byte 48 (local_look is_digit local_halt (local_give 0)) (local_number 65535)
 
   pub local_test : Local x n read_test read_test
   local_test =
-      local-byte 110
-      (local-byte 111 (local-then (local_letters (100 ∷ 101 ∷ [])) (λ done. local_brackets AnyNode))
-      (local-then local_name (λ k. local_give (Named k))))
-      (local-byte 42 (local_give Element)
-      (local-byte 116 (local-then (local_letters (101 ∷ 120 ∷ 116 ∷ [])) (λ done. local_brackets Text)) local_halt))
+      local_byte 110
+      (local_byte 111 (local_then (local_letters (100 ∷ 101 ∷ [])) (λ done. local_brackets AnyNode))
+      (local_then local_name (λ k. local_give (Named k))))
+      (local_byte 42 (local_give Element)
+      (local_byte 116 (local_then (local_letters (101 ∷ 120 ∷ 116 ∷ [])) (λ done. local_brackets Text)) local_halt))
 
   -- The word after an operand
 
   pub local_next : (e : Ends) (c : Bool) (k : Kind) → Local x n (read_next e c k) (read_next e c k)
   local_next e c k =
       local_entry k
-      (local-byte 47 (local_give Slash)
-      (local-byte 42 (local_give Star)
-      (local-byte 105 (local_spelled (100 ∷ 105 ∷ 118 ∷ []) Idiv)
-      (local-byte 43 (local_give Plus)
-      (local-byte 45 (local_give Minus)
-      (local-allowed (not c || by_else e) 101
-      (local-allowed (not c) 113 (local_give Eq)
-      (local-allowed (by_else e) 108 (local_spelled (115 ∷ 101 ∷ []) Else) local_halt))
-      (local-allowed (not c) 108 (local_spelled (116 ∷ []) Lt)
-      (local-allowed (by_comma e) 44 (local_give Comma)
-      (local-allowed (by_close e) 41 (local_give Close)
-      (local-allowed (by_return e) 114 (local_spelled (101 ∷ 116 ∷ 117 ∷ 114 ∷ 110 ∷ []) Return)
+      (local_byte 47 (local_give Slash)
+      (local_byte 42 (local_give Star)
+      (local_byte 105 (local_spelled (100 ∷ 105 ∷ 118 ∷ []) Idiv)
+      (local_byte 43 (local_give Plus)
+      (local_byte 45 (local_give Minus)
+      (local_allowed (not c || by_else e) 101
+      (local_allowed (not c) 113 (local_give Eq)
+      (local_allowed (by_else e) 108 (local_spelled (115 ∷ 101 ∷ []) Else) local_halt))
+      (local_allowed (not c) 108 (local_spelled (116 ∷ []) Lt)
+      (local_allowed (by_comma e) 44 (local_give Comma)
+      (local_allowed (by_close e) 41 (local_give Close)
+      (local_allowed (by_return e) 114 (local_spelled (101 ∷ 116 ∷ 117 ∷ 114 ∷ 110 ∷ []) Return)
       (local_either (by_text e) (local_end (local_give End) local_halt) local_halt)))))))))))

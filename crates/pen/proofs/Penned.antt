@@ -1,12 +1,12 @@
 -- Laws of what is written over a list, generic in the element.
---     penned-append        written one after the other is written at once
+--     penned_append        written one after the other is written at once
 --     penned_length        the list stays as long as it was
---     penned-laid          where all of it fits, it is laid there
+--     penned_laid          where all of it fits, it is laid there
 --     take_penned          what is written from 0 on stands in front
 --     drop_replicate       a repeat, past its start
 --     penned_whole         written over zeros from 0 on: padded with zeros
 --     cleared_from_0       zeros from 0 on are zeros only
---     cleared-penned       what is written from 0 on, then zeros from its end on: padded with zeros
+--     cleared_penned       what is written from 0 on, then zeros from its end on: padded with zeros
 --     cleared_more         one zero more: what is left gives what the whole gives
 --     cleared_all          past the end nothing is left
 use Prim.Native.Nat.{ℕ, suc, ◌+◌, ◌-◌, ◌≤◌, ◌<◌}
@@ -32,13 +32,13 @@ use Rattle.laws.proofs.Rows.{laid_nothing, laid_more, set_laid}
 use Rattle.pen.specs.Penned.{penned}
 
 module _ {A : Type 0} where
-  pub penned-append :
+  pub penned_append :
       (xs : List A) (at : ℕ) (ys zs : List A) → penned xs at (ys ++ zs) ≡ penned (penned xs at ys) (at + length ys) zs
   unfolding penned
-  penned-append xs at [] zs = ap (λ (n : ℕ). penned xs n zs) (sym (add-zero at))
-  penned-append xs at (y ∷ ys) zs =
+  penned_append xs at [] zs = ap (λ (n : ℕ). penned xs n zs) (sym (add-zero at))
+  penned_append xs at (y ∷ ys) zs =
       let e : at + 1 + length ys ≡ at + suc (length ys) = omega arith in
-      penned-append (set xs at y) (at + 1) ys zs
+      penned_append (set xs at y) (at + 1) ys zs
       ∙ ap (λ (n : ℕ). penned (penned (set xs at y) (at + 1) ys) n zs) e
 
   pub penned_length : (xs : List A) (at : ℕ) (ys : List A) → length (penned xs at ys) ≡ length xs
@@ -46,12 +46,12 @@ module _ {A : Type 0} where
   penned_length xs at [] = refl
   penned_length xs at (y ∷ ys) = penned_length (set xs at y) (at + 1) ys ∙ length-set xs at y
 
-  pub penned-laid :
+  pub penned_laid :
       (xs : List A) (at : ℕ) (ys : List A) → at + length ys ≤ length xs → penned xs at ys ≡ laid xs at ys
   unfolding penned
-  penned-laid xs at [] h = sym (laid_nothing xs at)
-  penned-laid xs at (y ∷ ys) h =
-      penned-laid (set xs at y) (at + 1) ys (simp length-set (omega arith))
+  penned_laid xs at [] h = sym (laid_nothing xs at)
+  penned_laid xs at (y ∷ ys) h =
+      penned_laid (set xs at y) (at + 1) ys (simp length-set (omega arith))
       ∙ ap (λ (l : List A). laid l (at + 1) ys) (set_laid xs at y (omega arith))
       ∙ laid_more xs at (y ∷ []) ys (omega arith)
 
@@ -62,7 +62,7 @@ module _ {A : Type 0} where
 
   pub take_penned : (xs ys : List A) → length ys ≤ length xs → take (length ys) (penned xs 0 ys) ≡ ys
   take_penned xs ys h =
-      ap (take (length ys)) (penned-laid xs 0 ys (omega arith) ∙ laid_front xs ys)
+      ap (take (length ys)) (penned_laid xs 0 ys (omega arith) ∙ laid_front xs ys)
       ∙ take-append_seam ys (drop (length ys) xs)
 
   pub drop_replicate : (k n : ℕ) (z : A) → k ≤ n → drop k (replicate n z) ≡ replicate (n - k) z
@@ -75,7 +75,7 @@ module _ {A : Type 0} where
   pub penned_whole : (n : ℕ) (z : A) (ys : List A) → length ys ≤ n → penned (replicate n z) 0 ys ≡ padded z n ys
   unfolding padded
   penned_whole n z ys h =
-      penned-laid (replicate n z) 0 ys (rw length-replicate (omega arith))
+      penned_laid (replicate n z) 0 ys (rw length-replicate (omega arith))
       ∙ laid_front (replicate n z) ys
       ∙ ap (λ (l : List A). ys ++ l) (drop_replicate (length ys) n z h)
 
@@ -83,10 +83,10 @@ module _ {A : Type 0} where
   unfolding padded
   cleared_from_0 n z xs = ap (λ (m : ℕ). replicate m z) (sub-zero n)
 
-  pub cleared-penned :
+  pub cleared_penned :
       (n : ℕ) (z : A) (xs ys : List A) → length ys ≤ length xs →
       padded z n (take (length ys) (penned xs 0 ys)) ≡ padded z n ys
-  cleared-penned n z xs ys h = ap (padded z n) (take_penned xs ys h)
+  cleared_penned n z xs ys h = ap (padded z n) (take_penned xs ys h)
 
   pub cleared_more :
       (n : ℕ) (z : A) (xs : List A) (i : ℕ) → i < length xs → length xs ≡ n →

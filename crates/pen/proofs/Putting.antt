@@ -1,11 +1,11 @@
 -- Laws of what the functions write: bytes, part by part.
 --     pens_byte, pens_past     one byte, where there is room and where there is none
---     pens_none, pens-more     nothing, and one part after another
---     pens-as, pens-first      bytes, or the first of them, by another name
+--     pens_none, pens_more     nothing, and one part after another
+--     pens_as, pens_first      bytes, or the first of them, by another name
 --     pens_length              the lent bytes stay as many as they were
---     pens-cleared             what is written from 0 on, then zeros from its end on: padded with zeros
+--     pens_cleared             what is written from 0 on, then zeros from its end on: padded with zeros
 --     bytes_of_join             a number of m + n bytes: what is past the last n bytes, then those
---     word_more, word-whole    a word, byte by byte
+--     word_more, word_whole    a word, byte by byte
 use Prim.Native.Nat.{ℕ, zero, suc, ◌+◌, ◌/◌, ◌%◌, ◌^◌, ◌≤◌, ◌<◌}
 use mathlib.Core.Path.{◌≡◌, refl, sym, ap, ap₂, subst, ◌∙◌}
 use mathlib.Core.List.{List, [], ◌∷◌, ◌++◌, append_assoc, append-nil}
@@ -16,7 +16,7 @@ use lib.Seq.{set_out, take-suc, take_all}
 use Rattle.cells.specs.Bytes.{bytes_of}
 use Rattle.laws.specs.Rows.{padded}
 use Rattle.pen.specs.Penned.{penned, Pens}
-use Rattle.pen.proofs.Penned.{penned-append, penned_length, cleared-penned}
+use Rattle.pen.proofs.Penned.{penned_append, penned_length, cleared_penned}
 
 -- one byte
 
@@ -34,10 +34,10 @@ pub pens_none : (xs : List ℕ) (at : ℕ) → Pens at [] xs xs at
 unfolding penned
 pens_none xs at = record { ends = sym (add-zero at); leaves = refl }
 
-pub pens-more :
+pub pens_more :
     {at m n : ℕ} {xs ys before between after : List ℕ} → Pens at xs before between m → Pens m ys between after n →
     Pens at (xs ++ ys) before after n
-pens-more {at} {m} {n} {xs} {ys} {before} {between} {after} p q =
+pens_more {at} {m} {n} {xs} {ys} {before} {between} {after} p q =
     record {
       ends =
           q.ends
@@ -47,30 +47,30 @@ pens-more {at} {m} {n} {xs} {ys} {before} {between} {after} p q =
       leaves =
           q.leaves
           ∙ ap₂ (λ (l : List ℕ) (k : ℕ). penned l k ys) p.leaves p.ends
-          ∙ sym (penned-append before at xs ys);
+          ∙ sym (penned_append before at xs ys);
     }
 
-pub pens-as :
+pub pens_as :
     {at n : ℕ} {xs ys before after : List ℕ} → xs ≡ ys → Pens at xs before after n → Pens at ys before after n
-pens-as {at} {n} {xs} {ys} {before} {after} e p = subst (λ (l : List ℕ). Pens at l before after n) e p
+pens_as {at} {n} {xs} {ys} {before} {after} e p = subst (λ (l : List ℕ). Pens at l before after n) e p
 
-pub pens-first :
+pub pens_first :
     {at n x y : ℕ} {xs before after : List ℕ} → x ≡ y →
     Pens at (x ∷ xs) before after n → Pens at (y ∷ xs) before after n
-pens-first {at} {n} {x} {y} {xs} e p = pens-as (ap (λ (b : ℕ). b ∷ xs) e) p
+pens_first {at} {n} {x} {y} {xs} e p = pens_as (ap (λ (b : ℕ). b ∷ xs) e) p
 
 -- all that is lent
 
 pub pens_length : {at n : ℕ} {ys before after : List ℕ} → Pens at ys before after n → length after ≡ length before
 pens_length {at} {n} {ys} {before} p = ap length p.leaves ∙ penned_length before at ys
 
-pub pens-cleared :
+pub pens_cleared :
     {n : ℕ} {ys before after : List ℕ} → Pens 0 ys before after n → length ys ≤ length before →
     padded 0 (length after) (take n after) ≡ padded 0 (length before) ys
-pens-cleared {n} {ys} {before} {after} p h =
+pens_cleared {n} {ys} {before} {after} p h =
     ap₂ (λ (k : ℕ) (l : List ℕ). padded 0 k (take n l)) (pens_length p) p.leaves
     ∙ ap (λ (k : ℕ). padded 0 (length before) (take k (penned before 0 ys))) (p.ends ∙ zero-add (length ys))
-    ∙ cleared-penned (length before) 0 before ys h
+    ∙ cleared_penned (length before) 0 before ys h
 
 -- numbers as bytes
 
@@ -93,13 +93,13 @@ pub word_more :
     Pens at (take i word) before between m → Pens m (b ∷ []) between after n →
     Pens at (take (i + 1) word) before after n
 word_more {at} {m} {n} {b} word i h e p q =
-    pens-as
+    pens_as
     (ap (λ (v : ℕ). take i word ++ (v ∷ [])) e
     ∙ sym (take-suc word i 0 h)
     ∙ ap (λ (k : ℕ). take k word) (sym (add-one i)))
-    (pens-more p q)
+    (pens_more p q)
 
-pub word-whole :
+pub word_whole :
     {at n : ℕ} {before after : List ℕ} (word : List ℕ) (i : ℕ) → length word ≤ i →
     Pens at (take i word) before after n → Pens at word before after n
-word-whole word i h p = pens-as (take_all i word h) p
+word_whole word i h p = pens_as (take_all i word h) p

@@ -2,8 +2,8 @@
 --     in_range_lem, before_range, past_range     the test of a range lo to hi
 --     attach-.., project-.., number-.., apply-.., step-.., root-..     a bad field, a sound one
 --     function_value, function_apply    RF by its function's number
---     of-mark                        the arm that a mark picks
---     mark_cut, mark_gap, mark-none    no operator where the mark is cut, or is none of the fourteen
+--     of_mark                        the arm that a mark picks
+--     mark_cut, mark_gap, mark_none    no operator where the mark is cut, or is none of the fourteen
 use Prim.Native.Nat.{ℕ, ◌+◌, ◌≤◌, ◌<◌}
 use mathlib.Core.Path.{◌≡◌, refl, sym, ◌∙◌, ap, subst}
 use mathlib.Core.Bool.{Bool, true, false, not, cond, ◌&&◌}
@@ -38,7 +38,7 @@ use Rattle.codes.specs.declared.TestField.{TestField}
 use Rattle.codes.specs.declared.TestField.TheVariants as TestField
 use Rattle.plan_records.specs.Arms as Arms
 use Rattle.plan_records.specs.Decoded.{operator_of, ColumnsStand, Means}
-use Rattle.plan_records.proofs.Sized.{shorter, there, none_reads, bad_reads, cut_reads, cut_before, sound-reads}
+use Rattle.plan_records.proofs.Sized.{shorter, there, none_reads, bad_reads, cut_reads, cut_before, sound_reads}
 
 -- The range of a number
 
@@ -63,13 +63,13 @@ module _ (bs : List ℕ) (at : ℕ) (z : ℤ) (e : z ≡ int8 bs (at + 4)) (b : 
   unfolding Arms.attach attach_at provided
   attach_bad h = bad_reads bs at 12 _ (rw (← e, ← f, not-true b h))
 
-  pub attach-sound :
+  pub attach_sound :
       (t : Bool) → t ≡ fits bs at 12 → not t ≡ false → not b ≡ false → (w : ℕ) → w ≡ word bs (at + 2) 2 →
       (r : Reading) → r ≡ Sound (record { operator = Operator.Attach w z; next = at + 12 }) →
       Means bs r (Arms.attach bs at)
   unfolding Arms.attach attach_at provided operator_of ColumnsStand
-  attach-sound t p q h w k r s =
-      sound-reads bs at 12 t p _ r (Operator.Attach w z) q s tt (rw (← e, ← f, not-false b h, k))
+  attach_sound t p q h w k r s =
+      sound_reads bs at 12 t p _ r (Operator.Attach w z) q s tt (rw (← e, ← f, not-false b h, k))
 
 -- RP and RN: n columns, or n keys
 
@@ -92,15 +92,15 @@ module _ (bs : List ℕ) (at n : ℕ) where
     unfolding Arms.project project_at provided
     project_bad h = rw (← e) (bad_reads bs at (5 + n) _ (rw h))
 
-    pub project-sound :
+    pub project_sound :
         (t : Bool) → t ≡ fits bs at (5 + n) → not t ≡ false → leb 1 n && leb n 6 ≡ true →
         (w : ℕ) → w ≡ word bs (at + 2) 2 →
         (r : Reading) → r ≡ Sound (record { operator = Operator.Project w n (at + 5); next = at + (5 + n) }) →
         Means bs r (Arms.project bs at)
     unfolding Arms.project project_at provided operator_of ColumnsStand
-    project-sound t p q h w k r s =
+    project_sound t p q h w k r s =
         let l : at + 5 + n ≤ length bs = omega (arith, there bs at (5 + n) t p q) in
-        rw (← e) (sound-reads bs at (5 + n) t p _ r (Operator.Project w n (at + 5)) q s l (rw (h, k)))
+        rw (← e) (sound_reads bs at (5 + n) t p _ r (Operator.Project w n (at + 5)) q s l (rw (h, k)))
 
   module _ (e : n ≡ field bs at 5) where
     pub number_cut : (t : Bool) → t ≡ fits bs at (6 + n) → not t ≡ true → Means bs Unsound (Arms.number bs at)
@@ -111,15 +111,15 @@ module _ (bs : List ℕ) (at n : ℕ) where
     unfolding Arms.number number_at provided
     number_bad h = rw (← e) (bad_reads bs at (6 + n) _ (rw h))
 
-    pub number-sound :
+    pub number_sound :
         (t : Bool) → t ≡ fits bs at (6 + n) → not t ≡ false → leb 1 n && leb n 2 ≡ true →
         (w : ℕ) → w ≡ word bs (at + 2) 2 → (p : ℕ) → p ≡ field bs at 4 →
         (r : Reading) → r ≡ Sound (record { operator = Operator.Number w p n (at + 6); next = at + (6 + n) }) →
         Means bs r (Arms.number bs at)
     unfolding Arms.number number_at provided operator_of ColumnsStand
-    number-sound t i q h w k p j r s =
+    number_sound t i q h w k p j r s =
         let l : at + 6 + n ≤ length bs = omega (arith, there bs at (6 + n) t i q) in
-        rw (← e) (sound-reads bs at (6 + n) t i _ r (Operator.Number w p n (at + 6)) q s l (rw (h, k, j)))
+        rw (← e) (sound_reads bs at (6 + n) t i _ r (Operator.Number w p n (at + 6)) q s l (rw (h, k, j)))
 
 -- RF
 
@@ -128,15 +128,15 @@ module _ (bs : List ℕ) (at : ℕ) (x : FunctionField) (e : function_field x �
   unfolding Arms.apply attempt
   apply_bad p = bad_reads bs at 7 _ (rw (sym e ∙ ap function_field p))
 
-  pub apply-sound :
+  pub apply_sound :
       (t : Bool) → t ≡ fits bs at 7 → not t ≡ false →
       (w c d : ℕ) → w ≡ word bs (at + 2) 2 → c ≡ field bs at 5 → d ≡ field bs at 6 →
       (f : Function) → x ≡ FunctionField.Is f →
       (r : Reading) → r ≡ Sound (record { operator = Operator.Apply w f c d; next = at + 7 }) →
       Means bs r (Arms.apply bs at)
   unfolding Arms.apply attempt operator_of ColumnsStand
-  apply-sound t p q w c d i j k f h r s =
-      sound-reads bs at 7 t p _ r (Operator.Apply w f c d) q s tt (rw (sym e ∙ ap function_field h, i, j, k))
+  apply_sound t p q w c d i j k f h r s =
+      sound_reads bs at 7 t p _ r (Operator.Apply w f c d) q s tt (rw (sym e ∙ ap function_field h, i, j, k))
 
 module _ (bs : List ℕ) (at n : ℕ) (e : n ≡ field bs at 4) (r : Reading) where
   pub function_value : n ≡ 7 → Means bs r (Arms.value bs at) → Means bs r (Arms.function bs at)
@@ -157,10 +157,10 @@ function_cut bs at f n l e = go (eqb f 7) _ _ (shorter bs at n 6 _ l e) (shorter
     go true a b p q = p
     go false a b p q = q
 
-pub function-short :
+pub function_short :
     (bs : List ℕ) (at : ℕ) (t : Bool) → t ≡ fits bs at 5 → not t ≡ true → Means bs Unsound (Arms.function bs at)
 unfolding Arms.function
-function-short bs at t e h = none_reads bs at _ (function_cut bs at _ 5 (omega arith) (fits_cut t bs at 5 e h))
+function_short bs at t e h = none_reads bs at _ (function_cut bs at _ 5 (omega arith) (fits_cut t bs at 5 e h))
 
 -- RX
 
@@ -179,14 +179,14 @@ module _ (bs : List ℕ) (at : ℕ) (x : AxisField) (e : axis_field x ≡ axis_o
     unfolding Arms.step step_at attempt
     step_no_test q = bad_reads bs at 8 _ (rw (sym e ∙ ap axis_field p, sym test_is ∙ ap test_field q))
 
-    pub step-sound :
+    pub step_sound :
         (t : Bool) → t ≡ fits bs at 8 → not t ≡ false → (w : ℕ) → w ≡ word bs (at + 2) 2 →
         (test : Test) → y ≡ TestField.Is test →
         (r : Reading) → r ≡ Sound (record { operator = Operator.Step w axis test; next = at + 8 }) →
         Means bs r (Arms.step bs at)
     unfolding Arms.step step_at attempt operator_of ColumnsStand
-    step-sound t h q w k test l r s =
-        sound-reads bs at 8 t h _ r (Operator.Step w axis test) q s tt
+    step_sound t h q w k test l r s =
+        sound_reads bs at 8 t h _ r (Operator.Step w axis test) q s tt
         (rw (sym e ∙ ap axis_field p, sym test_is ∙ ap test_field l, k))
 
 -- RO
@@ -196,23 +196,23 @@ module _ (bs : List ℕ) (at k : ℕ) (e : k ≡ field bs at 4) where
   unfolding Arms.root fragment_of attempt provided
   root_bad h = bad_reads bs at 5 _ (rw (sym e ∙ h))
 
-  pub root-sound :
+  pub root_sound :
       (t : Bool) → t ≡ fits bs at 5 → not t ≡ false → (k ≡ 0 → ⊥) → k < 256 → (w : ℕ) → w ≡ word bs (at + 2) 2 →
       (r : Reading) → r ≡ Sound (record { operator = Operator.Root w k; next = at + 5 }) →
       Means bs r (Arms.root bs at)
   unfolding Arms.root fragment_of attempt provided operator_of ColumnsStand
-  root-sound t p q z l w i r s =
-      sound-reads bs at 5 t p _ r (Operator.Root w k) q s tt
+  root_sound t p q z l w i r s =
+      sound_reads bs at 5 t p _ r (Operator.Root w k) q s tt
       (rw (← e, in_range_lem 1 255 k (omega arith) (omega arith), i))
 
 -- Marks
 
 module _ (bs : List ℕ) (at : ℕ) where
-  pub of-mark :
+  pub of_mark :
       (r : Reading) (m k : ℕ) → m ≡ word bs at 2 → m ≡ k →
       Means bs r (Plan.operator_of bs at k) → Means bs r (operator_at bs at)
   unfolding operator_at
-  of-mark r m k e h = subst (λ (n : ℕ). Means bs r (Plan.operator_of bs at n)) (sym h ∙ e)
+  of_mark r m k e h = subst (λ (n : ℕ). Means bs r (Plan.operator_of bs at n)) (sym h ∙ e)
 
   either : (t : Bool) (a b : Attempt (Op × ℕ)) → a ≡ fails → b ≡ fails → cond t a b ≡ fails
   either true a b p q = p
@@ -240,14 +240,14 @@ module _ (bs : List ℕ) (at : ℕ) where
   unfolding operator_at
   mark_cut t e h = none_reads bs at _ (operator_cut (word bs at 2) (fits_cut t bs at 2 e h))
 
-  operator-none :
+  operator_none :
       (m : ℕ) →
       NoneOf m
       (mark_ro ∷ mark_rx ∷ mark_rk ∷ mark_re ∷ mark_rc ∷ mark_rf ∷ mark_rn ∷ mark_rj ∷ mark_rs ∷ mark_rd ∷ mark_ru ∷ mark_rp
       ∷ mark_ra ∷ mark_rt ∷ []) →
       Plan.operator_of bs at m ≡ fails
   unfolding Plan.operator_of ColumnsStand
-  operator-none m ((((((((((((((h, a), b), c), d), e), f), g), i), j), k), l), n), o), p) =
+  operator_none m ((((((((((((((h, a), b), c), d), e), f), g), i), j), k), l), n), o), p) =
       simp (
         ne_eqb m mark_rt a,
         ne_eqb m mark_ra b,
@@ -265,14 +265,14 @@ module _ (bs : List ℕ) (at : ℕ) where
         ne_eqb m mark_ro p,
       )
 
-  pub mark-none :
+  pub mark_none :
       (m : ℕ) → m ≡ word bs at 2 →
       NoneOf m
       (mark_ro ∷ mark_rx ∷ mark_rk ∷ mark_re ∷ mark_rc ∷ mark_rf ∷ mark_rn ∷ mark_rj ∷ mark_rs ∷ mark_rd ∷ mark_ru ∷ mark_rp
       ∷ mark_ra ∷ mark_rt ∷ []) →
       Means bs Unsound (operator_at bs at)
   unfolding operator_at
-  mark-none m e h = none_reads bs at _ (ap (Plan.operator_of bs at) (sym e) ∙ operator-none m h)
+  mark_none m e h = none_reads bs at _ (ap (Plan.operator_of bs at) (sym e) ∙ operator_none m h)
 
   -- the one single number between the marks that names nothing
   pub mark_gap : (m : ℕ) → m ≡ word bs at 2 → m ≡ 0x5242 → Means bs Unsound (operator_at bs at)

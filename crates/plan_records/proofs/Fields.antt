@@ -21,7 +21,7 @@ use Rattle.theorems.specs.PlanFields.{Own}
 use Rattle.laws.proofs.Booleans.{both_true}
 use Rattle.cells.proofs.Bytes.{word_bound}
 use Rattle.codes.proofs.Numbers.{name_fits}
-use Rattle.laws.proofs.Outcomes.{given_fails, given_gives, given_cond, given_provided, given-attempt, given_any}
+use Rattle.laws.proofs.Outcomes.{given_fails, given_gives, given_cond, given_provided, given_attempt, given_any}
 use Rattle.plan_records.specs.Fields.{EndsWithin}
 use Rattle.plan_records.proofs.Columns.{columns_length}
 
@@ -31,18 +31,18 @@ within lo hi n t =
     (leb-true lo n l, leb-true n hi u)
 
 module _ (bs : List ℕ) (h : Bytes bs) (at : ℕ) where
-  sized-ends :
+  sized_ends :
       (n : ℕ) (a : Attempt Op) → 0 < n → (at + n ≤ length bs → Given Own a) → Given (EndsWithin bs at) (sized bs at n a)
   unfolding sized fits
-  sized-ends n a z g =
+  sized_ends n a z g =
       given_provided _
       (λ t.
       let l : at + n ≤ length bs = leb-true (at + n) (length bs) t in
-      given-attempt (g l) (λ o k. given_gives (record { after = omega arith; within = omega arith; own = k })))
+      given_attempt (g l) (λ o k. given_gives (record { after = omega arith; within = omega arith; own = k })))
 
   -- an operator whose fields have no range of their own
   plain : (n : ℕ) (o : Op) → 0 < n → Own o → Given (EndsWithin bs at) (sized bs at n (gives o))
-  plain n o z k = sized-ends n (gives o) z (λ l. given_gives k)
+  plain n o z k = sized_ends n (gives o) z (λ l. given_gives k)
 
   attach_own : (z : ℤ) → Given Own (attach_at bs at z)
   unfolding attach_at Own
@@ -66,37 +66,37 @@ module _ (bs : List ℕ) (h : Bytes bs) (at : ℕ) where
   unfolding function_at Own
   function_ends f =
       given_cond (eqb f 7) (plain 6 _ (omega arith) tt)
-      (sized-ends 7 _ (omega arith) (λ l. given_any (function_of f) (λ g. given_gives tt)))
+      (sized_ends 7 _ (omega arith) (λ l. given_any (function_of f) (λ g. given_gives tt)))
 
   step_own : Given Own (step_at bs at)
   unfolding step_at Own
   step_own =
       given_any _
       (λ x.
-      given-attempt (name_fits (field bs at 5) (word bs (at + 6) 2) (word_bound bs h (at + 6) 2))
+      given_attempt (name_fits (field bs at 5) (word bs (at + 6) 2) (word_bound bs h (at + 6) 2))
       (λ y k. given_gives k))
 
   root_own : (t k : ℕ) → Given Own (attempt (fragment_of k) (λ k. gives (Op.RO t k)))
   unfolding fragment_of Own
-  root_own t k = given-attempt (given_provided _ (λ e. given_gives (within 1 255 k e))) (λ j i. given_gives i)
+  root_own t k = given_attempt (given_provided _ (λ e. given_gives (within 1 255 k e))) (λ j i. given_gives i)
 
   operator_given : (mark : ℕ) → Given (EndsWithin bs at) (operator_of bs at mark)
   unfolding operator_of Own
   operator_given mark =
       given_cond (eqb mark mark_rt) (plain 2 _ (omega arith) tt)
-      (given_cond (eqb mark mark_ra) (sized-ends 12 _ (omega arith) (λ l. attach_own (int8 bs (at + 4))))
-      (given_cond (eqb mark mark_rp) (sized-ends (5 + field bs at 4) _ (omega arith) (project_own (field bs at 4)))
+      (given_cond (eqb mark mark_ra) (sized_ends 12 _ (omega arith) (λ l. attach_own (int8 bs (at + 4))))
+      (given_cond (eqb mark mark_rp) (sized_ends (5 + field bs at 4) _ (omega arith) (project_own (field bs at 4)))
       (given_cond (eqb mark mark_ru) (plain 6 _ (omega arith) tt)
       (given_cond (eqb mark mark_rd) (plain 6 _ (omega arith) tt)
       (given_cond (eqb mark mark_rs) (plain 5 _ (omega arith) tt)
       (given_cond (eqb mark mark_rj) (plain 8 _ (omega arith) tt)
-      (given_cond (eqb mark mark_rn) (sized-ends (6 + field bs at 5) _ (omega arith) (number_own (field bs at 5)))
+      (given_cond (eqb mark mark_rn) (sized_ends (6 + field bs at 5) _ (omega arith) (number_own (field bs at 5)))
       (given_cond (eqb mark mark_rf) (function_ends (field bs at 4))
       (given_cond (eqb mark mark_rc) (plain 5 _ (omega arith) tt)
       (given_cond (eqb mark mark_re) (plain 4 _ (omega arith) tt)
       (given_cond (eqb mark mark_rk) (plain 5 _ (omega arith) tt)
-      (given_cond (eqb mark mark_rx) (sized-ends 8 _ (omega arith) (λ l. step_own))
-      (given_cond (eqb mark mark_ro) (sized-ends 5 _ (omega arith) (λ l. root_own _ (field bs at 4)))
+      (given_cond (eqb mark mark_rx) (sized_ends 8 _ (omega arith) (λ l. step_own))
+      (given_cond (eqb mark mark_ro) (sized_ends 5 _ (omega arith) (λ l. root_own _ (field bs at 4)))
       given_fails)))))))))))))
 
   pub operator_ends : (x : Op × ℕ) → operator_at bs at ≡ gives x → EndsWithin bs at x

@@ -1,5 +1,5 @@
 -- A record of n bytes: cut, with a bad field, or sound.
---     there, cut_reads, cut_before, sound-reads     by the test of `fits`: all bytes there; cut; an operator is read
+--     there, cut_reads, cut_before, sound_reads     by the test of `fits`: all bytes there; cut; an operator is read
 --     shorter, bad_reads, none_reads     a record that is cut, has a bad field, or has no mark
 use Prim.Native.Nat.{ℕ, ◌+◌, ◌≤◌, ◌<◌}
 use mathlib.Core.Path.{◌≡◌, refl, sym}
@@ -51,9 +51,9 @@ module _ (bs : List ℕ) (at : ℕ) where
     pub cut_before : (m : ℕ) (a : Attempt Op) → n ≤ m → not t ≡ true → Means bs Unsound (sized bs at m a)
     cut_before m a l h = none_reads (sized bs at m a) (shorter n m a l (fits_cut t bs at n e h))
 
-    pub sound-reads :
+    pub sound_reads :
         (a : Attempt Op) (r : Reading) (o : Operator) → not t ≡ false →
         r ≡ Sound (record { operator = o; next = at + n }) → ColumnsStand bs o → a ≡ gives (operator_of bs o) →
         Means bs r (sized bs at n a)
     unfolding reading_of ReadingStands sized provided attempt
-    sound-reads a r o h p s q = rw (p, fits_there t bs at n e h, q) (record { means = refl; stands = s })
+    sound_reads a r o h p s q = rw (p, fits_there t bs at n e h, q) (record { means = refl; stands = s })

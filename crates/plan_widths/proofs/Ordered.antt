@@ -1,6 +1,6 @@
 -- The width of an operator's table, in the order in which the code works it out.
 --     width_by bs ws o    by the tables that o names: both are there, o suits their widths, then the width
---     width-by           the definitions' `width_of` is that
+--     width_by_lem           the definitions' `width_of` is that
 --     width_none, no_first, no_second, unsuited, suited     the answers of `width_of`
 use Prim.Native.Nat.{ℕ, ◌+◌, ◌≤◌, ◌<◌}
 use mathlib.Core.Path.{◌≡◌, refl, sym, ◌∙◌, ap}
@@ -48,32 +48,32 @@ two fails b f g h = refl
 two (gives w) fails f g h = refl
 two (gives w) (gives v) f g h = h w v
 
-pub width-by :
+pub width_by_lem :
     (bs ws : List ℕ) (o : Operator) → ColumnsStand bs o → width_of ws (operator_of bs o) ≡ width_by bs ws o (tables_of o)
 unfolding width_of operator_of width_by tables_of suitable made_width up_to6 ColumnsStand
-width-by bs ws Operator.One s = refl
-width-by bs ws (Operator.Attach t z) s = one (table_width ws t) _ _ (λ w. refl)
-width-by bs ws (Operator.Project t n from) s =
+width_by_lem bs ws Operator.One s = refl
+width_by_lem bs ws (Operator.Attach t z) s = one (table_width ws t) _ _ (λ w. refl)
+width_by_lem bs ws (Operator.Project t n from) s =
     one (table_width ws t) _ _
     (λ w.
     rw (columns_length bs from n s)
     (provided_and (columns w (columns_at bs from n)) (leb n 6) (gives n)))
-width-by bs ws (Operator.Union t u) s = refl
-width-by bs ws (Operator.Minus t u) s = refl
-width-by bs ws (Operator.Select t c) s = one (table_width ws t) _ _ (λ w. refl)
-width-by bs ws (Operator.Join t c u d) s =
+width_by_lem bs ws (Operator.Union t u) s = refl
+width_by_lem bs ws (Operator.Minus t u) s = refl
+width_by_lem bs ws (Operator.Select t c) s = one (table_width ws t) _ _ (λ w. refl)
+width_by_lem bs ws (Operator.Join t c u d) s =
     two (table_width ws t) (table_width ws u) _ _ (λ w v. provided_and (ltb c w && ltb d v) (leb (w + v) 6) _)
-width-by bs ws (Operator.Number t p n from) s =
+width_by_lem bs ws (Operator.Number t p n from) s =
     one (table_width ws t) _ _
     (λ w. provided_and ((eqb p 255 || ltb p w) && columns w (columns_at bs from n)) (leb (w + 1) 6) _)
-width-by bs ws (Operator.Apply t f c d) s =
+width_by_lem bs ws (Operator.Apply t f c d) s =
     one (table_width ws t) _ _ (λ w. provided_and (ltb c w && ltb d w) (leb (w + 1) 6) _)
-width-by bs ws (Operator.Value t c) s = one (table_width ws t) _ _ (λ w. provided_and (ltb c w) (leb (w + 1) 6) _)
-width-by bs ws (Operator.Counts t c) s = one (table_width ws t) _ _ (λ w. refl)
-width-by bs ws (Operator.Truths t) s = one (table_width ws t) _ _ (λ w. refl)
-width-by bs ws (Operator.Once t c) s = one (table_width ws t) _ _ (λ w. refl)
-width-by bs ws (Operator.Step t x y) s = one (table_width ws t) _ _ (λ w. refl)
-width-by bs ws (Operator.Root t k) s = one (table_width ws t) _ _ (λ w. refl)
+width_by_lem bs ws (Operator.Value t c) s = one (table_width ws t) _ _ (λ w. provided_and (ltb c w) (leb (w + 1) 6) _)
+width_by_lem bs ws (Operator.Counts t c) s = one (table_width ws t) _ _ (λ w. refl)
+width_by_lem bs ws (Operator.Truths t) s = one (table_width ws t) _ _ (λ w. refl)
+width_by_lem bs ws (Operator.Once t c) s = one (table_width ws t) _ _ (λ w. refl)
+width_by_lem bs ws (Operator.Step t x y) s = one (table_width ws t) _ _ (λ w. refl)
+width_by_lem bs ws (Operator.Root t k) s = one (table_width ws t) _ _ (λ w. refl)
 
 -- The answers of `width_of`
 
@@ -94,7 +94,7 @@ module _
     (bs ws : List ℕ) (n : ℕ) (h : n ≤ length ws) (o : Operator) (s : ColumnsStand bs o)
     (x : TableOperands) (e : x ≡ tables_of o) where
   by : (y : TableOperands) → x ≡ y → width_by bs (take n ws) o y ≡ width_of (take n ws) (operator_of bs o)
-  by y p = ap (width_by bs (take n ws) o) (sym p ∙ e) ∙ sym (width-by bs (take n ws) o s)
+  by y p = ap (width_by bs (take n ws) o) (sym p ∙ e) ∙ sym (width_by_lem bs (take n ws) o s)
 
   pub width_none : x ≡ None → gives 1 ≡ width_of (take n ws) (operator_of bs o)
   unfolding width_by
@@ -114,18 +114,18 @@ module _
     module _
         (l : n ≤ t → ⊥) (k : n ≤ u → ⊥) (w v : ℕ) (i : w ≡ get_or ws t 0) (j : v ≡ get_or ws u 0)
         (b : Bool) (f : b ≡ suitable (operator_of bs o) w v) where
-      both-there :
+      both_there :
           provided b (gives (made_width o w v)) ≡ width_of (take n ws) (operator_of bs o)
       unfolding width_by attempt
-      both-there =
+      both_there =
           let y : t < n = omega arith in
           let z : u < n = omega arith in
           rw (there ws n t h y, there ws n u h z, ← i, ← j, ← f) at (by (Of t u) p)
 
       pub unsuited : b ≡ false → fails ≡ width_of (take n ws) (operator_of bs o)
       unfolding provided
-      unsuited q = rw q at both-there
+      unsuited q = rw q at both_there
 
       pub suited : b ≡ true → (r : ℕ) → r ≡ made_width o w v → gives r ≡ width_of (take n ws) (operator_of bs o)
       unfolding provided
-      suited q r g = ap gives g ∙ (rw q at both-there)
+      suited q r g = ap gives g ∙ (rw q at both_there)

@@ -1,6 +1,6 @@
 -- What `suits` leans on, for the operators whose columns or keys stand in the bytes.
 --     stands_project, stands_number     the columns, and the keys, stand within the bytes
---     suits-project, suits-number       the tests together are the definition's
+--     suits_project, suits_number       the tests together are the definition's
 use Prim.Native.Nat.{ℕ, ◌+◌, ◌≤◌}
 use mathlib.Core.Path.{◌≡◌, subst}
 use mathlib.Core.Bool.{Bool, ◌&&◌, ◌||◌}
@@ -24,14 +24,14 @@ module _ (bs : List ℕ) (o : Operator) (s : ColumnsStand bs o) where
   stands_number t p n from e = subst (ColumnsStand bs) e s
 
   module _ (w v : ℕ) where
-    pub suits-project :
+    pub suits_project :
         (t n from : ℕ) → o ≡ Operator.Project t n from →
         (a : Bool) → a ≡ columns w (columns_at bs from n) → a && leb n 6 ≡ suitable (operator_of bs o) w v
     unfolding operator_of suitable
-    suits-project t n from e a p = rw (p, e, columns_length bs from n (stands_project t n from e))
+    suits_project t n from e a p = rw (p, e, columns_length bs from n (stands_project t n from e))
 
-    pub suits-number :
+    pub suits_number :
         (t p n from : ℕ) → o ≡ Operator.Number t p n from → (a : Bool) → a ≡ columns w (columns_at bs from n) →
         ((eqb p 255 || ltb p w) && a) && leb (w + 1) 6 ≡ suitable (operator_of bs o) w v
     unfolding operator_of suitable
-    suits-number t p n from e a q = rw (q, e)
+    suits_number t p n from e a q = rw (q, e)

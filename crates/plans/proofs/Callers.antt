@@ -6,7 +6,7 @@
 --     ahead_unread                   before it `read` finds an operator
 --     ahead_turn                     and that operator is the next, sound after those done
 --     ahead_width                    every table so far is 1 to 6 wide
---     no_table, fitting, turn-fitting     its tables, widths and fields
+--     no_table, fitting, turn_fitting     its tables, widths and fields
 --     keys_one, keys_two             RN's keys as they stand in the bytes
 use Prim.Native.Nat.{ℕ, zero, suc, ◌+◌, ◌-◌, ◌≤◌, ◌<◌}
 use mathlib.Core.Path.{◌≡◌, refl, sym, ◌∙◌, ap, subst}
@@ -43,8 +43,8 @@ use Rattle.theorems.specs.PlanRead.{widths_of}
 use Rattle.plans.specs.Accepted.{Suited, Fitting, Ahead, Turn, placed}
 use Rattle.plan_records.proofs.Columns.{columns_length}
 use Rattle.plan_records.proofs.Fields.{operator_ends}
-use Rattle.plan_widths.proofs.Ordered.{width_by, width-by}
-use Rattle.plans.proofs.Walking.{walk_start, walk_end, walk_excess, walk_bad, walk-on, unplaced, misplaced}
+use Rattle.plan_widths.proofs.Ordered.{width_by, width_by_lem}
+use Rattle.plans.proofs.Walking.{walk_start, walk_end, walk_excess, walk_bad, walk_on, unplaced, misplaced}
 use Rattle.plans.proofs.Walking.{widths_more, widths_length}
 use Rattle.plans.proofs.Ending.{unread, found, found_stands, last_each}
 
@@ -98,10 +98,10 @@ ended_whole done left ps e =
       ends = subst (λ (qs : List Placed). ended qs ≡ reads ps) s e;
     }
 
-whole-on :
+whole_on :
     (done : List Placed) (p : Placed) (left : ℕ) (ps : List Placed) → WholePlan (done ++ (p ∷ [])) left ps →
     WholePlan done (suc left) ps
-whole-on done p left ps k =
+whole_on done p left ps k =
     record {
       others = p ∷ k.others;
       front = k.front ∙ append_assoc done (p ∷ []) k.others;
@@ -109,17 +109,17 @@ whole-on done p left ps k =
       ends = k.ends;
     }
 
-from-whole :
+from_whole :
     (left : ℕ) (bs : List ℕ) (done : List Placed) (at : ℕ) (ps : List Placed) →
     plan_from left bs done at ≡ reads ps → WholePlan done left ps
 unfolding plan_from reading refusing
-from-whole zero bs done at ps e = go (leb (length bs) at) e
+from_whole zero bs done at ps e = go (leb (length bs) at) e
   where
     go : (t : Bool) → elim t [ true ↦ ended done | false ↦ refuses 5 at ] ≡ reads ps → WholePlan done zero ps
     go true e = ended_whole done zero ps e
     go false e = absurd (refuses_reads 5 at ps e)
-from-whole (suc left) bs done at ps e =
-    go (from-whole left bs) (placed_at bs (widths_of done) at) (leb (length bs) at) e
+from_whole (suc left) bs done at ps e =
+    go (from_whole left bs) (placed_at bs (widths_of done) at) (leb (length bs) at) e
   where
     on :
         ((done : List Placed) (at : ℕ) (ps : List Placed) → plan_from left bs done at ≡ reads ps
@@ -128,7 +128,7 @@ from-whole (suc left) bs done at ps e =
         reading (refusing 5 at a) (λ o. plan_from left bs (done ++ (o.0 ∷ [])) o.1) ≡ reads ps →
         WholePlan done (suc left) ps
     on ih fails e = absurd (refuses_reads 5 at ps e)
-    on ih (gives (p, next)) e = whole-on done p left ps (ih (done ++ (p ∷ [])) next ps e)
+    on ih (gives (p, next)) e = whole_on done p left ps (ih (done ++ (p ∷ [])) next ps e)
 
     go :
         ((done : List Placed) (at : ℕ) (ps : List Placed) → plan_from left bs done at ≡ reads ps
@@ -145,7 +145,7 @@ from-whole (suc left) bs done at ps e =
 module _ (bs : List ℕ) (ps : List Placed) (e : plan_read bs ≡ reads ps) where
   all_read : WholePlan [] 512 ps
   unfolding plan_read
-  all_read = from-whole 512 bs [] 0 ps e
+  all_read = from_whole 512 bs [] 0 ps e
 
   pub plan_few : length ps ≤ 512
   plan_few = omega (arith, all_read.few, ap length all_read.front)
@@ -212,8 +212,8 @@ module _ {bs : List ℕ} {done rest : List Placed} {at : ℕ} (k : Ahead bs done
         turn_of : (w : ℕ) → width_of (widths_of done) (operator_of bs f.operator) ≡ gives w → Turn bs done rest at f
         turn_of w e =
             let p = placed bs at f.operator w in
-            let on = walk-on bs done at k.walk h ahead_few b (operator_of bs f.operator) f.next w reads_op e in
-            let z = from-whole _ bs (done ++ (p ∷ [])) f.next (done ++ rest) (on.rest ∙ k.whole) in
+            let on = walk_on bs done at k.walk h ahead_few b (operator_of bs f.operator) f.next w reads_op e in
+            let z = from_whole _ bs (done ++ (p ∷ [])) f.next (done ++ rest) (on.rest ∙ k.whole) in
             let s = z.front ∙ append_assoc done (p ∷ []) z.others in
             let ends = operator_ends bs b at (operator_of bs f.operator, f.next) reads_op in
             record {
@@ -256,48 +256,48 @@ pub no_table :
     (bs ws : List ℕ) (o : Operator) (x : ℕ) → ColumnsStand bs o → width_of ws (operator_of bs o) ≡ gives x →
     tables_of o ≡ None → x ≡ 1
 unfolding width_by
-no_table bs ws o x s e q = sym (gives_same (sym (ap (width_by bs ws o) q) ∙ sym (width-by bs ws o s) ∙ e))
+no_table bs ws o x s e q = sym (gives_same (sym (ap (width_by bs ws o) q) ∙ sym (width_by_lem bs ws o s) ∙ e))
 
-suited-all :
+suited_all :
     (bs : List ℕ) (o : Operator) (w v : ℕ) → ColumnsStand bs o → Own (operator_of bs o) →
     suitable (operator_of bs o) w v ≡ true → Suited bs o w v
 unfolding Suited suitable operator_of Own ColumnsStand
-suited-all bs Operator.One w v s k e = tt
-suited-all bs (Operator.Attach t z) w v s k e = (leb-true (w + 1) 6 e, k)
-suited-all bs (Operator.Project t n from) w v s k e =
+suited_all bs Operator.One w v s k e = tt
+suited_all bs (Operator.Attach t z) w v s k e = (leb-true (w + 1) 6 e, k)
+suited_all bs (Operator.Project t n from) w v s k e =
     let (p, q) = both_true _ _ e in
     let l = columns_length bs from n s in
     (p, s, omega arith, omega (arith, leb-true (length (columns_at bs from n)) 6 q))
-suited-all bs (Operator.Union t u) w v s k e = eqb-true w v e
-suited-all bs (Operator.Minus t u) w v s k e = eqb-true w v e
-suited-all bs (Operator.Select t c) w v s k e = ltb-true c w e
-suited-all bs (Operator.Join t c u d) w v s k e =
+suited_all bs (Operator.Union t u) w v s k e = eqb-true w v e
+suited_all bs (Operator.Minus t u) w v s k e = eqb-true w v e
+suited_all bs (Operator.Select t c) w v s k e = ltb-true c w e
+suited_all bs (Operator.Join t c u d) w v s k e =
     let (p, q) = both_true _ _ e in
     let (i, j) = both_true _ _ p in
     (ltb-true c w i, ltb-true d v j, leb-true (w + v) 6 q)
-suited-all bs (Operator.Number t p n from) w v s k e =
+suited_all bs (Operator.Number t p n from) w v s k e =
     let (i, j) = both_true _ _ e in
     let l = columns_length bs from n s in
     (i, s, omega arith, omega arith, leb-true (w + 1) 6 j)
-suited-all bs (Operator.Apply t f c d) w v s k e =
+suited_all bs (Operator.Apply t f c d) w v s k e =
     let (p, q) = both_true _ _ e in
     let (i, j) = both_true _ _ p in
     (ltb-true c w i, ltb-true d w j, leb-true (w + 1) 6 q)
-suited-all bs (Operator.Value t c) w v s k e =
+suited_all bs (Operator.Value t c) w v s k e =
     let (p, q) = both_true _ _ e in
     (ltb-true c w p, leb-true (w + 1) 6 q)
-suited-all bs (Operator.Counts t c) w v s k e = ltb-true c w e
-suited-all bs (Operator.Truths t) w v s k e = eqb-true w 3 e
-suited-all bs (Operator.Once t c) w v s k e = ltb-true c w e
-suited-all bs (Operator.Step t x y) w v s k e = (eqb-true w 2 e, k)
-suited-all bs (Operator.Root t i) w v s k e = (leb-true (w + 1) 6 e, k.0, k.1)
+suited_all bs (Operator.Counts t c) w v s k e = ltb-true c w e
+suited_all bs (Operator.Truths t) w v s k e = eqb-true w 3 e
+suited_all bs (Operator.Once t c) w v s k e = ltb-true c w e
+suited_all bs (Operator.Step t x y) w v s k e = (eqb-true w 2 e, k)
+suited_all bs (Operator.Root t i) w v s k e = (leb-true (w + 1) 6 e, k.0, k.1)
 
 pub fitting :
     (bs ws : List ℕ) (o : Operator) (x : ℕ) → ColumnsStand bs o → Own (operator_of bs o) →
     width_of ws (operator_of bs o) ≡ gives x → (t u : ℕ) → tables_of o ≡ Of t u → Fitting bs ws o t u x
 unfolding width_by
 fitting bs ws o x s k e t u q =
-    let g : width_by bs ws o (Of t u) ≡ gives x = sym (ap (width_by bs ws o) q) ∙ sym (width-by bs ws o s) ∙ e in
+    let g : width_by bs ws o (Of t u) ≡ gives x = sym (ap (width_by bs ws o) q) ∙ sym (width_by_lem bs ws o s) ∙ e in
     let (w, i, j) = attempt_gives (table_width ws t) _ x g in
     let (v, l, m) = attempt_gives (table_width ws u) _ x j in
     let (a, b) = provided_gives (suitable (operator_of bs o) w v) (gives (made_width o w v)) x m in
@@ -306,14 +306,14 @@ fitting bs ws o x s k e t u q =
     record {
       first = c;
       second = f;
-      suited = rw (d, h) (suited-all bs o w v s k a);
+      suited = rw (d, h) (suited_all bs o w v s k a);
       made = rw (d, h) (sym (gives_same b));
     }
 
-pub turn-fitting :
+pub turn_fitting :
     {bs : List ℕ} {done rest : List Placed} {at : ℕ} {f : Decoded} (k : Turn bs done rest at f) (t u : ℕ) →
     tables_of f.operator ≡ Of t u → Fitting bs (widths_of done) f.operator t u k.width
-turn-fitting {bs} {done} {rest} {at} {f} k =
+turn_fitting {bs} {done} {rest} {at} {f} k =
     fitting bs (widths_of done) f.operator k.width k.stands k.own k.fits
 
 -- RN's keys

@@ -29,7 +29,7 @@ use Rattle.plan_widths.specs.Widths.{width_field}
 use Rattle.plans.specs.Walk.{checked, plan_count, last_at, Walk, Checking}
 use Rattle.theorems.specs.PlanRead.{widths_of}
 use Rattle.cells.specs.Bytes.{Bytes}
-use Rattle.plans.proofs.Walking.{walk_start, walk_end, walk_excess, walk_bad, walk-on, last_at_lem, last_width}
+use Rattle.plans.proofs.Walking.{walk_start, walk_end, walk_excess, walk_bad, walk_on, last_at_lem, last_width}
 use Rattle.plans.proofs.Walking.{widths_more, unplaced, misplaced}
 
 pub checking_start : (bs ws : List ℕ) → length ws ≡ 512 → Checking bs ws 0 0 0
@@ -100,7 +100,7 @@ module _ {bs ws : List ℕ} {at n last : ℕ} (k : Checking bs ws at n last) whe
           placed = record { at = at; op = o; width = w }
 
           on : Walk bs (k.done ++ (placed ∷ [])) next
-          on = walk-on bs k.done at k.walk h more b o next w p (sym here ∙ ap width_field q)
+          on = walk_on bs k.done at k.walk h more b o next w p (sym here ∙ ap width_field q)
 
           pub checking_small : w ≤ 6
           checking_small = (last_each (widths_of k.done) w (rw (widths_more k.done placed) at on.each)).high
@@ -123,20 +123,20 @@ module _ {bs ws : List ℕ} {at n last : ℕ} (k : Checking bs ws at n last) whe
 
 -- The end of the bytes
 
-ended-three :
+ended_three :
     (ps : List Placed) (n : ℕ) → length ps ≡ n → (n ≡ 0 → ⊥) → get_or (widths_of ps) (n - 1) 0 ≡ 3 → ended ps ≡ reads ps
 unfolding ended unless
-ended-three [] n c z e = absurd (z (sym c))
-ended-three (p ∷ ps) n c z e =
+ended_three [] n c z e = absurd (z (sym c))
+ended_three (p ∷ ps) n c z e =
     let l : n - 1 ≡ length ps = omega arith in
     rw (last_width p ps, ← l, e)
 
-ended-other :
+ended_other :
     (ps : List Placed) (n : ℕ) → length ps ≡ n → (n ≡ 0 → ⊥) → (get_or (widths_of ps) (n - 1) 0 ≡ 3 → ⊥) →
     ended ps ≡ refuses 5 (last_at ps)
 unfolding ended unless last_at
-ended-other [] n c z e = absurd (z (sym c))
-ended-other (p ∷ ps) n c z e =
+ended_other [] n c z e = absurd (z (sym c))
+ended_other (p ∷ ps) n c z e =
     let l : n - 1 ≡ length ps = omega arith in
     let w : eqb (last_of p ps).width 3 ≡ false =
     ne_eqb _ 3 (λ q. e (ap (λ (m : ℕ). get_or (widths_of (p ∷ ps)) m 0) l ∙ sym (last_width p ps) ∙ q))
@@ -164,9 +164,9 @@ module _ {bs ws : List ℕ} {at n last : ℕ} (k : Checking bs ws at n last) (h 
     pub checking_three : get_or ws (n - 1) 0 ≡ 3 → checked (Operators n) ≡ plan_count bs
     unfolding checked plan_count reading
     checking_three e =
-        rw (whole ∙ ended-three k.done n k.count z (final ∙ e)) (ap reads (sym k.count))
+        rw (whole ∙ ended_three k.done n k.count z (final ∙ e)) (ap reads (sym k.count))
 
     pub checking_other : (get_or ws (n - 1) 0 ≡ 3 → ⊥) → checked (Unsound last) ≡ plan_count bs
     checking_other e =
         refused_at_lem bs last
-        (whole ∙ ended-other k.done n k.count z (λ q. e (sym final ∙ q)) ∙ ap (refuses 5) k.latest)
+        (whole ∙ ended_other k.done n k.count z (λ q. e (sym final ∙ q)) ∙ ap (refuses 5) k.latest)

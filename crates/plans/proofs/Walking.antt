@@ -1,7 +1,7 @@
 -- Walking over a plan, operator by operator.
 --     walk_start                       nothing done
 --     walk_end                         at the end of the bytes
---     walk_excess, walk_bad, walk-on   a 513th operator; an unsound one; a sound one
+--     walk_excess, walk_bad, walk_on   a 513th operator; an unsound one; a sound one
 --     last_width, last_at_lem              the last operator of those done
 use Prim.Native.Nat.{ℕ, suc, ◌+◌, ◌-◌, ◌≤◌, ◌<◌}
 use mathlib.Core.Path.{◌≡◌, refl, sym, ◌∙◌, ap, subst}
@@ -12,8 +12,8 @@ use Rattle.laws.specs.Attempt.{fails, gives, attempt, refuses}
 use Rattle.meaning.specs.Plan.{Op, Placed, operator_at, width_of, placed_at, last_of, ended, plan_from, plan_read}
 use Rattle.theorems.specs.PlanFields.{WidthFits}
 use Rattle.theorems.specs.PlanWidths.{Every, widths}
-use Rattle.theorems.proofs.PlanFields.{widths-checked}
-use Rattle.theorems.proofs.PlanSteps.{from_end, from_none, from_bad, from_on, placed-is}
+use Rattle.theorems.proofs.PlanFields.{widths_checked}
+use Rattle.theorems.proofs.PlanSteps.{from_end, from_none, from_bad, from_on, placed_is}
 use Rattle.plans.specs.Walk.{last_at, Walk}
 use Rattle.theorems.specs.PlanRead.{widths_of}
 use Rattle.cells.specs.Bytes.{Bytes}
@@ -61,10 +61,10 @@ unfolding placed_at attempt
 misplaced bs ws at next o p q = rw (p, q)
 
 -- the widths after one more operator
-widths-on :
+widths_on :
     (ws : List ℕ) (o : Op) (w : ℕ) → width_of ws o ≡ gives w → widths ws (o ∷ []) ≡ gives (ws ++ (w ∷ []))
 unfolding widths attempt
-widths-on ws o w e = rw e
+widths_on ws o w e = rw e
 
 module _ (bs : List ℕ) (done : List Placed) (at : ℕ) (k : Walk bs done at) where
   pub walk_end : length bs ≤ at → plan_read bs ≡ ended done
@@ -86,24 +86,24 @@ module _ (bs : List ℕ) (done : List Placed) (at : ℕ) (k : Walk bs done at) w
       pub walk_bad : placed_at bs (widths_of done) at ≡ fails → plan_read bs ≡ refuses 5 at
       walk_bad e = sym rest_one ∙ from_bad bs done at h (511 - length done) e
 
-      pub walk-on :
+      pub walk_on :
           Bytes bs → (o : Op) (next w : ℕ) → operator_at bs at ≡ gives (o, next) →
           width_of (widths_of done) o ≡ gives w → Walk bs (done ++ (record { at = at; op = o; width = w } ∷ [])) next
       unfolding Every
-      walk-on b o next w p q =
+      walk_on b o next w p q =
           let x : Placed = record { at = at; op = o; width = w } in
           let n : length (done ++ (x ∷ [])) ≡ length done + 1 = length-append done (x ∷ []) in
           let m : 512 - length (done ++ (x ∷ [])) ≡ 511 - length done = omega (arith, n) in
           let y = operator_ends bs b at (o, next) p in
           let z =
-          widths-checked (o ∷ []) (widths_of done) (widths_of done ++ (w ∷ [])) k.each
-          (omega (arith, widths_length done)) (y.own, tt) (widths-on (widths_of done) o w q)
+          widths_checked (o ∷ []) (widths_of done) (widths_of done ++ (w ∷ [])) k.each
+          (omega (arith, widths_length done)) (y.own, tt) (widths_on (widths_of done) o w q)
           in
           record {
             few = omega (arith, n);
             each = subst (Every WidthFits) (sym (widths_more done x)) z.1;
             rest =
                 ap (λ (n : ℕ). plan_from n bs (done ++ (x ∷ [])) next) m
-                ∙ sym (from_on bs done at h (511 - length done) next x (placed-is bs (widths_of done) at next o w p q))
+                ∙ sym (from_on bs done at h (511 - length done) next x (placed_is bs (widths_of done) at next o w p q))
                 ∙ rest_one;
           }

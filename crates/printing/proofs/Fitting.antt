@@ -24,7 +24,7 @@ use Rattle.meaning.specs.Written.{written}
 use Rattle.meaning.specs.Calls.{Answer, gives, refused, Outcome, refusal, room, last_table, translate_outcome, run_outcome}
 use Rattle.laws.specs.Rows.{flat}
 use Rattle.meaning.specs.Calls.{evaluate_outcome, translate_call, run_call, evaluate_call}
-use Rattle.laws.proofs.Outcomes.{found_reads, found-reading}
+use Rattle.laws.proofs.Outcomes.{found_reads, found_reading}
 use Rattle.theorems.proofs.Counts.{counts}
 use Rattle.theorems.proofs.Counted.{running_fits}
 use Rattle.agreement.proofs.RowWidths.{read_sound, flat_wide, flat_last, running_laid}
@@ -76,8 +76,8 @@ unfolding run_call
 run_within bytes doc lent a e =
     subst (λ (b : Answer). Within b lent) (sym e)
     (outcome_within lent _
-    (found-reading (found_same (plan_read bytes))
-    (λ ps k. found-reading (found_same (catalogue_read doc))
+    (found_reading (found_same (plan_read bytes))
+    (λ ps k. found_reading (found_same (catalogue_read doc))
     (λ c _. found_reads (λ f d. done_within bytes ps (world_of c) lent f k d)))))
 
 -- The evaluator
@@ -103,8 +103,8 @@ unfolding evaluate_call
 items_stand query doc lent a e =
     subst (λ (b : Answer). GaveStands lent (told_by 0 b)) (sym e)
     (outcome_stands lent _
-    (found-reading (found_same (query_read query))
-    (λ r _. found-reading (found_same (catalogue_read doc))
+    (found_reading (found_same (query_read query))
+    (λ r _. found_reading (found_same (catalogue_read doc))
     (λ c _. found_reads (λ s d. items_few lent (world_of c) r.tree s d)))))
 
 -- The translator
@@ -119,7 +119,7 @@ pub plan_within : (query : List ℕ) (lent : ℕ) (a : Answer) → a ≡ (transl
 unfolding translate_call
 plan_within query lent a e =
     subst (λ (b : Answer). value_of 1 b ≤ lent) (sym e)
-    (outcome_long lent _ (found-reading (found_same (query_read query)) (λ r _. plan_long lent r.tree)))
+    (outcome_long lent _ (found_reading (found_same (query_read query)) (λ r _. plan_long lent r.tree)))
 
 -- The lent slices, as they are handed on
 

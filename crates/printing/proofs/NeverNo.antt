@@ -23,11 +23,11 @@ use Rattle.meaning.specs.Operators.{same_row}
 use Rattle.meaning.specs.Written.{written}
 use Rattle.meaning.specs.Calls.{Answer, gives, refused, Outcome, refusal, plan_of, catalogue_answer, catalogue_call}
 use Rattle.meaning.specs.Calls.{translate_outcome, translate_call, run_outcome, run_call, evaluate_outcome, evaluate_call}
-use Rattle.theorems.proofs.PlanRead.{query-plan-back, translated}
+use Rattle.theorems.proofs.PlanRead.{query_plan_back, translated}
 use Rattle.theorems.specs.PlanRead.{TranslatedPlan}
 use Rattle.agreement.specs.Passing.{means, Refused as RefusedBy, items_at, Alike, both_fail, both_give}
 use Rattle.agreement.proofs.Encoded.{same_row_self}
-use Rattle.agreement.proofs.EnginesAgree.{agree-in-hand}
+use Rattle.agreement.proofs.EnginesAgree.{agree_in_hand}
 use Rattle.verdicts.specs.declared.Told.{Told}
 use Rattle.verdicts.specs.declared.Told.TheVariants.{Gave, Refused}
 use Rattle.verdicts.specs.declared.Verdict.{Verdict}
@@ -119,13 +119,13 @@ module _ (doc query : List ℕ) (small : Bytes query) (n m : ℕ)
       by_catalogue : (c : Reading Catalogue) → catalogue_read doc ≡ c → ⊥
       by_catalogue (refuses k p) bad =
           let (ps, back) =
-          query-plan-back query t.read small t.accepted (omega (arith, t.operators, t.within)) in
+          query_plan_back query t.read small t.accepted (omega (arith, t.operators, t.within)) in
           refused_alike k p p ours theirs
           (run_refused _ query doc 8192 k p bad ps (ap plan_read t.bytes ∙ back.back))
           (evaluate_refused [] query doc 8192 k p bad t.read t.accepted) d
       by_catalogue (reads c) sound =
           let (i, alike) =
-          agree-in-hand query doc (translate_call query 6144).left ours.left theirs.left
+          agree_in_hand query doc (translate_call query 6144).left ours.left theirs.left
           (translate_call query 6144).answer (catalogue_call doc) ours.answer theirs.answer
           6144 8192 8192 n m c.rows small
           (record { answers = refl; leaves = refl }) told refl (ap catalogue_answer sound)

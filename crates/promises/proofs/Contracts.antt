@@ -14,7 +14,7 @@ use Rattle.laws.specs.Rows.{laid, padded}
 use Rattle.meaning.specs.Calls.{Answer, gives, translate_call}
 use Rattle.agreement.specs.Passing.{HeldOutcome}
 use Rattle.agreement.proofs.EngineCalls.{take_padded}
-use Rattle.agreement.proofs.EnginesAgree.{agree-in-hand}
+use Rattle.agreement.proofs.EnginesAgree.{agree_in_hand}
 use Rattle.catalogue.specs.Answers as Catalogue
 use Rattle.catalogue.proofs.Decided as CatalogueDecided
 use Rattle.queries.specs.Answers as Queries
@@ -29,7 +29,7 @@ use Rattle.evaluator.proofs.Decided as EvaluatorDecided
 use Rattle.grammar.specs.Grammar.{expr}
 use Rattle.grammar.specs.Typed.{TypedCall}
 use Rattle.grammar.specs.Written.{text_of}
-use Rattle.grammar.proofs.Writing.{written-call}
+use Rattle.grammar.proofs.Writing.{written_call}
 use Rattle.reader.specs.Answers as Reader
 use Rattle.reader.specs.declared.Typed.TheVariants.{Records}
 use Rattle.reader.proofs.Decided as ReaderDecided
@@ -119,7 +119,7 @@ decided =
 pub in_hand : Demand3InHand
 unfolding Translator.answered Catalogue.answered
 in_hand query doc bytes bytes' work work' cells cells' r e n m rows small ht hk hr not-run he not-evaluation =
-    agree-in-hand query doc bytes' work' cells' (Translator.answered (Plan n m)) (gives (rows ∷ [])) (Runner.answered r)
+    agree_in_hand query doc bytes' work' cells' (Translator.answered (Plan n m)) (gives (rows ∷ [])) (Runner.answered r)
     (Evaluator.answered e) _ _ _ n m rows small (contracts.translate query bytes (Plan n m) bytes' ht) refl
     (contracts.catalogue doc _ hk) refl (contracts.run (take m bytes') doc work r work' hr) not-run
     (contracts.evaluate query doc cells e cells' he) not-evaluation
@@ -140,7 +140,7 @@ back_in_hand query text text' bytes bytes' n a small hw hr enough =
     in
     let same =
     ReaderDecided.decided t (length bytes) a (Records r.records (length query)) bytes'
-    (padded 0 (length bytes) query) back (written-call query r (length bytes) small e enough)
+    (padded 0 (length bytes) query) back (written_call query r (length bytes) small e enough)
     in
     (r, e, same.0, same.1)
 

@@ -2,10 +2,10 @@
 use Rattle.agreement.proofs.Answers.{translate_cleared, run_cleared, evaluate_cleared, translate_written}
 use Rattle.agreement.proofs.Answers.{translate_enough, run_stood, run_failing, evaluate_items, evaluate_failing}
 use Rattle.agreement.proofs.Enough.{run_enough, run_enough_fails, evaluate_enough, evaluate_enough_fails}
-use Rattle.agreement.proofs.EnginesAgree.{engines-agree}
+use Rattle.agreement.proofs.EnginesAgree.{engines_agree}
 use Rattle.agreement.proofs.SixBelow.{run_six, filled_fills, evaluate_six, count_stands}
-use Rattle.order.proofs.OrderTheorem.{order-free}
-use Rattle.grammar.proofs.Writing.{written-typed}
+use Rattle.order.proofs.OrderTheorem.{order_free_lem}
+use Rattle.grammar.proofs.Writing.{written_typed}
 use Rattle.parsing.proofs.Theorems.{only_reading, nine_exactly, never_both, one_place}
 use Rattle.printing.proofs.NeverNo.{never_no}
 use Rattle.promises.specs.Promises.{Demand1, Demand2, Demand3, RoomSentence, Contracts, Decides, Demand3InHand}
@@ -47,10 +47,10 @@ demand2 =
     }
 
 pub demand3 : Demand3
-demand3 = engines-agree
+demand3 = engines_agree
 
 pub order_free : OrderFree
-order_free = order-free
+order_free = order_free_lem
 
 pub room_sentence : RoomSentence
 room_sentence = record { runner = run_six; filled_is = filled_fills; evaluator = evaluate_six; count_is = count_stands }
@@ -99,7 +99,7 @@ typed_answers =
     }
 
 pub round_trip : RoundTrip
-round_trip query small r e = written-typed query r small e
+round_trip query small r e = written_typed query r small e
 
 pub round_trip_in_hand : RoundTripInHand
 round_trip_in_hand = Ours.back_in_hand

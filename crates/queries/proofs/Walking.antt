@@ -3,7 +3,7 @@
 --     flags_set       one more variable is bound
 --     walk_read       `walk` under the flags of vs is `read` under vs, without the tree
 --     call_stopped, call_whole, call_extra    the answer of the query check, from its walk
---     walk_unsound, walk_deep, walk_many, walk-sound    what `walk` does at a record
+--     walk_unsound, walk_deep, walk_many, walk_sound    what `walk` does at a record
 --     walk_stopped, walk_passed    what follows a walk that stopped, or passed
 use Prim.Native.Nat.{ℕ, zero, suc, ◌+◌, ◌-◌, ◌≤◌, ◌<◌}
 use mathlib.Core.Path.{◌≡◌, refl, sym, ◌∙◌, ap}
@@ -45,21 +45,21 @@ use Rattle.queries.specs.contracts.Checking.{the_type}
 
 module _ {A B : Type 0} where
   -- the rest may lean on what was read
-  reading-same :
+  reading_same :
       (a : Reading A) (f g : A → Reading B) → ((x : A) → a ≡ reads x → f x ≡ g x) → reading a f ≡ reading a g
   unfolding reading
-  reading-same (refuses n p) f g h = refl
-  reading-same (reads x) f g h = h x refl
+  reading_same (refuses n p) f g h = refl
+  reading_same (reads x) f g h = h x refl
 
-  reading-both :
+  reading_both :
       (a b : Reading A) (f g : A → Reading B) → a ≡ b → ((x : A) → f x ≡ g x) → reading a f ≡ reading b g
-  reading-both a b f g e h = rw e (reading-same b f g (λ x p. h x))
+  reading_both a b f g e h = rw e (reading_same b f g (λ x p. h x))
 
-passes-reading :
+passes_reading :
     {A : Type 0} (a : Reading A) (f : A → Reading Read) → passes (reading a f) ≡ reading a (λ x. passes (f x))
 unfolding passes reading
-passes-reading (refuses n p) f = refl
-passes-reading (reads x) f = refl
+passes_reading (refuses n p) f = refl
+passes_reading (reads x) f = refl
 
 passes_one : (f : Query → Query) (a : Reading Read) → passes (one f a) ≡ passes a
 unfolding passes one leaf reading
@@ -74,10 +74,10 @@ unfolding passes reading
 passes_then (refuses n p) f g h = refl
 passes_then (reads x) f g h = h x
 
-recordAt-gives :
+record_at_gives :
     (bs : List ℕ) (at : ℕ) (x : Record × ℕ) → record_at bs at ≡ reads x → record_of bs at (word bs at 2) ≡ gives x
 unfolding record_at
-recordAt-gives bs at x e = refusing_apart 1 at (record_of bs at (word bs at 2)) x e
+record_at_gives bs at x e = refusing_apart 1 at (record_of bs at (word bs at 2)) x e
 
 -- Flags
 
@@ -120,7 +120,7 @@ module _ (rd : Operand) (wd : Walker) (ih : Walks rd wd) where
       two wd fs gs n at ≡ passes (Query.two f (rd vs n at) (rd us))
   unfolding two Query.two
   two_walks f fs gs vs us n at g h =
-      reading-both (wd fs n at) (passes (rd vs n at)) _ _ (ih fs vs n at g) (λ x. ih gs us x.1 x.0 h)
+      reading_both (wd fs n at) (passes (rd vs n at)) _ _ (ih fs vs n at g) (λ x. ih gs us x.1 x.0 h)
       ∙ sym (passes_then (rd vs n at) _ _ (λ x. passes_one (f x.tree) (rd us x.records x.next)))
 
   three_walks :
@@ -128,60 +128,60 @@ module _ (rd : Operand) (wd : Walker) (ih : Walks rd wd) where
       three wd fs n at ≡ passes (Query.three f (rd vs n at) (rd vs) (rd vs))
   unfolding three Query.three
   three_walks f fs vs n at g =
-      reading-both (wd fs n at) (passes (rd vs n at))
+      reading_both (wd fs n at) (passes (rd vs n at))
       (λ x. two wd fs fs x.1 x.0) (λ x. two wd fs fs x.1 x.0)
       (ih fs vs n at g) (λ x. refl)
       ∙ sym
       (passes_then (rd vs n at) _ (λ x. two wd fs fs x.1 x.0)
       (λ x. sym (two_walks (f x.tree) fs fs vs vs x.records x.next g g)))
 
-  operands-walk :
+  operands_walk :
       (k : Record) (fs : List Bool) (vs : List ℕ) (at n next : ℕ) → Ranged k → Flags fs vs →
       steps wd fs at n next (operands_of k) ≡ passes (operands rd vs at n next k)
   unfolding Ranged operands_of steps operands leaf passes reading unless
-  operands-walk (Query.literal z) fs vs at n next h g = refl
-  operands-walk Query.empty fs vs at n next h g = refl
-  operands-walk (Query.root k) fs vs at n next h g = refl
-  operands-walk (Query.variable v) fs vs at n next h g = rw (g.flag v h) (go (bound v vs))
+  operands_walk (Query.literal z) fs vs at n next h g = refl
+  operands_walk Query.empty fs vs at n next h g = refl
+  operands_walk (Query.root k) fs vs at n next h g = refl
+  operands_walk (Query.variable v) fs vs at n next h g = rw (g.flag v h) (go (bound v vs))
     where
       go :
           (t : Bool) →
           unless {A = ℕ × ℕ} t 3 at (reads (next, n)) ≡ passes (unless t 3 at (leaf (Query.QV at v) next n))
       go true = refl
       go false = refl
-  operands-walk Query.sequence fs vs at n next h g = two_walks (Query.QS at) fs fs vs vs n next g g
-  operands-walk (Query.letting v) fs vs at n next h g =
+  operands_walk Query.sequence fs vs at n next h g = two_walks (Query.QS at) fs fs vs vs n next g g
+  operands_walk (Query.letting v) fs vs at n next h g =
       two_walks (Query.QT at v) fs (set fs v true) vs (v ∷ vs) n next g (flags_set fs vs v h g)
-  operands-walk (Query.for v) fs vs at n next h g =
+  operands_walk (Query.for v) fs vs at n next h g =
       two_walks (Query.QF at v) fs (set fs v true) vs (v ∷ vs) n next g (flags_set fs vs v h g)
-  operands-walk Query.choice fs vs at n next h g = three_walks (Query.QI at) fs vs n next g
-  operands-walk (Query.function f) fs vs at n next h g = two_walks (Query.QO at f) fs fs vs vs n next g g
-  operands-walk Query.counting fs vs at n next h g = one_walks (Query.QC at) fs vs n next g
-  operands-walk Query.values fs vs at n next h g = one_walks (Query.QD at) fs vs n next g
-  operands-walk (Query.step x t) fs vs at n next h g = one_walks (Query.QX at x t) fs vs n next g
+  operands_walk Query.choice fs vs at n next h g = three_walks (Query.QI at) fs vs n next g
+  operands_walk (Query.function f) fs vs at n next h g = two_walks (Query.QO at f) fs fs vs vs n next g g
+  operands_walk Query.counting fs vs at n next h g = one_walks (Query.QC at) fs vs n next g
+  operands_walk Query.values fs vs at n next h g = one_walks (Query.QD at) fs vs n next g
+  operands_walk (Query.step x t) fs vs at n next h g = one_walks (Query.QX at x t) fs vs n next g
 
 -- The query at an offset
 
-passes-unless :
+passes_unless :
     (t : Bool) (k p : ℕ) (a : Passing) (b : Reading Read) → a ≡ passes b → unless t k p a ≡ passes (unless t k p b)
 unfolding unless passes reading
-passes-unless true k p a b e = e
-passes-unless false k p a b e = refl
+passes_unless true k p a b e = e
+passes_unless false k p a b e = refl
 
 record-walk :
     (d : ℕ) (bs : List ℕ) → Walks (read d bs) (walk d bs) → Walks (read (suc d) bs) (walk (suc d) bs)
 unfolding read walk
 record-walk d bs ih fs vs n at g =
-    reading-same (record_at bs at) _ _
+    reading_same (record_at bs at) _ _
     (λ x e.
-    let s = record-sound bs at (word bs at 2) x (recordAt-gives bs at x e) in
-    passes-unless (ltb n 128) 2 at _ _
-    (operands-walk (read d bs) (walk d bs) ih x.0 fs vs at (suc n) x.1 s.ranged g))
-    ∙ sym (passes-reading (record_at bs at) _)
+    let s = record-sound bs at (word bs at 2) x (record_at_gives bs at x e) in
+    passes_unless (ltb n 128) 2 at _ _
+    (operands_walk (read d bs) (walk d bs) ih x.0 fs vs at (suc n) x.1 s.ranged g))
+    ∙ sym (passes_reading (record_at bs at) _)
 
 pub walk_read : (d : ℕ) (bs : List ℕ) → Walks (read d bs) (walk d bs)
 unfolding read walk passes reading
-walk_read zero bs fs vs n at g = sym (passes-reading (record_at bs at) (λ r. refuses 2 at))
+walk_read zero bs fs vs n at g = sym (passes_reading (record_at bs at) (λ r. refuses 2 at))
 walk_read (suc d) bs fs vs n at g = record-walk d bs (walk_read d bs) fs vs n at g
 
 -- The steps of the code
@@ -217,11 +217,11 @@ module _ (bs : List ℕ) (at : ℕ) (r : Found) (e : reading_of r ≡ record_of 
           go zero = rw (at_reads f h)
           go (suc d) = rw (at_reads f h, le-ltb n 128 l)
 
-      pub walk-sound :
+      pub walk_sound :
           (o p : Operands) → (d ≡ 0 → ⊥) → n < 128 → o ≡ operands_of (Code.record_of f.kind) → o ≡ p →
           steps (walk (d - 1) bs) fs at (n + 1) f.next p ≡ walk d bs fs n at
       unfolding walk reading unless
-      walk-sound o p z l q s = go d z
+      walk_sound o p z l q s = go d z
         where
           go : (d : ℕ) → (d ≡ 0 → ⊥) → steps (walk (d - 1) bs) fs at (n + 1) f.next p ≡ walk d bs fs n at
           go zero z = absurd (z refl)

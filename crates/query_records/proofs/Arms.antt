@@ -1,8 +1,8 @@
 -- What the record reader's functions lean on: a record that is there or cut, its fields, and the marks.
---     means_cut, means_fails, means-sized    what a record of n bytes means: cut, a bad field, sound
+--     means_cut, means_fails, means_sized    what a record of n bytes means: cut, a bad field, sound
 --     boolean_none       numbers that name nothing
---     variable_room, variable_fails, variable-means    a record of a variable
---     apply_none, apply-means    a function
+--     variable_room, variable_fails, variable_means    a record of a variable
+--     apply_none, apply_means    a function
 --     step_no_axis, step_no_test, step_means    a step
 --     record-cut, record-gap, record-none    no record where the mark is cut, or is none of the thirteen
 use Prim.Native.Nat.{ℕ, ◌+◌, ◌≤◌, ◌<◌}
@@ -56,11 +56,11 @@ module _ (bs : List ℕ) (at n : ℕ) (a : Attempt Query.Record) where
   unfolding reading_of sized provided attempt
   means_fails h e = rw (h, e) (record { means = refl; small = tt })
 
-  pub means-sized :
+  pub means_sized :
       (r : Reading) (k : Record) → r ≡ Sound (record { kind = k; next = at + n }) →
       fits bs at n ≡ true → SmallLiteral k → a ≡ gives (record_of k) → Means r (sized bs at n a)
   unfolding reading_of sized provided attempt
-  means-sized r k e h s g =
+  means_sized r k e h s g =
       subst⁻¹ (λ (x : Reading). Means x (sized bs at n a)) e (rw (h, g) (record { means = refl; small = s }))
 
 -- Numbers that name nothing
@@ -132,11 +132,11 @@ module _ (bs : List ℕ) (at : ℕ) (f : ℕ → Query.Record) where
     unfolding reading_of attempt
     variable_fails h = rw (variable_record_lem, variable_none bs at x e h) (record { means = refl; small = tt })
 
-    pub variable-means :
+    pub variable_means :
         (r : Reading) (k : Record) (v : ℕ) → r ≡ Sound (record { kind = k; next = at + 3 }) → x ≡ Field.Is v →
         SmallLiteral k → record_of k ≡ f v → Means r (variable_record bs at f)
     unfolding reading_of attempt
-    variable-means r k v p h s q =
+    variable_means r k v p h s q =
         rw (p, variable_record_lem, variable_is bs at x e v h, ← q) (record { means = refl; small = s })
 
 -- A function
@@ -148,11 +148,11 @@ module _
   unfolding apply_record attempt
   apply_none p = means_fails bs at 3 _ h (rw (sym e ∙ ap function_field p))
 
-  pub apply-means :
+  pub apply_means :
       (f : Function) (r : Reading) → x ≡ FunctionField.Is f →
       r ≡ Sound (record { kind = Record.Apply f; next = at + 3 }) → Means r (apply_record bs at)
   unfolding apply_record attempt record_of
-  apply-means f r p s = means-sized bs at 3 _ r (Record.Apply f) s h tt (rw (sym e ∙ ap function_field p))
+  apply_means f r p s = means_sized bs at 3 _ r (Record.Apply f) s h tt (rw (sym e ∙ ap function_field p))
 
 -- A step
 
@@ -178,16 +178,16 @@ module _
         r ≡ Sound (record { kind = Record.Step axis test; next = at + 6 }) → Means r (step_record bs at)
     unfolding step_record attempt record_of
     step_means test r q s =
-        means-sized bs at 6 _ r (Record.Step axis test) s h tt
+        means_sized bs at 6 _ r (Record.Step axis test) s h tt
         (rw (sym e ∙ ap axis_field p, sym test_is ∙ ap test_field q))
 
 -- Marks
 
 module _ (bs : List ℕ) (at : ℕ) where
-  pub means-mark :
+  pub means_mark :
       (r : Reading) (m k : ℕ) → m ≡ word bs at 2 → m ≡ k →
       Means r (Query.record_of bs at k) → Means r (Query.record_of bs at (word bs at 2))
-  means-mark r m k e h = subst (λ (n : ℕ). Means r (Query.record_of bs at n)) (sym h ∙ e)
+  means_mark r m k e h = subst (λ (n : ℕ). Means r (Query.record_of bs at n)) (sym h ∙ e)
 
   pub means_none : (a : Attempt (Query.Record × ℕ)) → a ≡ fails → Means Unsound a
   unfolding reading_of

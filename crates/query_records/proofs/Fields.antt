@@ -13,7 +13,7 @@ use Rattle.laws.specs.Attempt.{Attempt, gives, attempt, Given}
 use Rattle.meaning.specs.Query.{Record, root, variable, letting, for, mark_ql, mark_qb, mark_qe, mark_qr, mark_qv, mark_qs}
 use Rattle.meaning.specs.Query.{mark_qt, mark_qf, mark_qi, mark_qo, mark_qc, mark_qd, mark_qx, variable_of, fragment_of, sized}
 use Rattle.meaning.specs.Query.{record_of}
-use Rattle.laws.proofs.Outcomes.{given_fails, given_gives, given_cond, given_provided, given-attempt}
+use Rattle.laws.proofs.Outcomes.{given_fails, given_gives, given_cond, given_provided, given_attempt}
 use Rattle.laws.proofs.Outcomes.{given_any}
 use Rattle.theorems.proofs.Ranges.{variable_below, fragment_within}
 use Rattle.query_records.specs.Fields.{Ranged, SoundRecord}
@@ -24,7 +24,7 @@ module _ (bs : List ℕ) (at : ℕ) where
   sized_sound n a h g =
       given_provided _
       (λ t.
-      given-attempt g
+      given_attempt g
       (λ r k.
       let l : at + n ≤ length bs = leb-true (at + n) (length bs) t in
       given_gives (record { after = omega arith; within = omega arith; ranged = k })))
@@ -33,7 +33,7 @@ module _ (bs : List ℕ) (at : ℕ) where
   field :
       (a : Attempt ℕ) (f : ℕ → Record) (P : ℕ → Type 0) → Given P a → ((v : ℕ) → P v → Ranged (f v)) →
       Given (SoundRecord bs at) (sized bs at 3 (attempt a (λ v. gives (f v))))
-  field a f P g h = sized_sound 3 _ (omega arith) (given-attempt g (λ v k. given_gives (h v k)))
+  field a f P g h = sized_sound 3 _ (omega arith) (given_attempt g (λ v k. given_gives (h v k)))
 
   -- a record whose fields have no range to keep
   plain : (n : ℕ) (r : Record) → 0 < n → Ranged r → Given (SoundRecord bs at) (sized bs at n (gives r))

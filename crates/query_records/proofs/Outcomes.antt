@@ -1,5 +1,5 @@
 -- Taking apart what succeeded: an attempt or a reading that gives a value gave one at each step.
---     attempt-apart      an attempt that goes on and gives: the first part gave, and so did the rest
+--     attempt_apart      an attempt that goes on and gives: the first part gave, and so did the rest
 --     provided_apart     the test held
 --     refusing_apart     the attempt gave
 --     cond_all           what holds of both sides of a choice holds of the choice
@@ -24,9 +24,9 @@ module _ {A : Type 0} where
   cond_all P true x y p q = p
   cond_all P false x y p q = q
 
-pub attempt-apart :
+pub attempt_apart :
     {A B : Type 0} (a : Attempt A) (f : A → Attempt B) (y : B) → attempt a f ≡ gives y →
     (x : A) × (a ≡ gives x) × (f x ≡ gives y)
 unfolding attempt
-attempt-apart fails f y e = absurd (fails_gives y e)
-attempt-apart (gives x) f y e = (x, refl, e)
+attempt_apart fails f y e = absurd (fails_gives y e)
+attempt_apart (gives x) f y e = (x, refl, e)

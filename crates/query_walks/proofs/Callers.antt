@@ -1,5 +1,5 @@
 -- The tree at an offset, from what `read` found there.
---     found-parses      the tree at its offset: the record's own operands, one level less
+--     found_parses      the tree at its offset: the record's own operands, one level less
 --     unfound_parses    no tree where `read` found no record
 --     shallow_parses    no tree at depth 0
 use Prim.Native.Nat.{ℕ, zero, suc, ◌-◌}
@@ -23,12 +23,12 @@ module _ (bs : List ℕ) (at : ℕ) (r : Found) (m : Means r (record_of bs at (w
   unfound_parses h zero = refl
   unfound_parses h (suc d) = rw (sym m.means ∙ ap reading_of h)
 
-  pub found-parses :
+  pub found_parses :
       (f : Decoded) → r ≡ Found.Sound f → (d : ℕ) → (d ≡ 0 → ⊥) →
       parse d bs at ≡ trees (parse (d - 1) bs) at f.next (Code.record_of f.kind)
   unfolding parse attempt
-  found-parses f h zero z = absurd (z refl)
-  found-parses f h (suc d) z = let k : suc d - 1 ≡ d = omega arith in rw (k, found_gives bs at r m f h)
+  found_parses f h zero z = absurd (z refl)
+  found_parses f h (suc d) z = let k : suc d - 1 ≡ d = omega arith in rw (k, found_gives bs at r m f h)
 
 pub shallow_parses : (bs : List ℕ) (at d : ℕ) → d ≡ 0 → parse d bs at ≡ fails
 unfolding parse

@@ -1,9 +1,9 @@
 -- What `skip` and `free` lean on: the operands of the record at an offset, their ends, and their free variables.
 --     parse_deep, parse_unsound    no tree at depth 0, or where no record is
---     parse-sound       the operands of the record that was read
+--     parse_sound       the operands of the record that was read
 --     past_one, past_two, past_binding, past_three     the end of a tree, from the ends of its operands
---     flags-more        one more flag of a row is done
---     free_none, free_variable, free_one, free-two, free-binding, free-three    its free variables, from theirs
+--     flags_more        one more flag of a row is done
+--     free_none, free_variable, free_one, free_two, free_binding, free_three    its free variables, from theirs
 use Prim.Native.Nat.{ℕ, ◌+◌, ◌-◌, ◌<◌}
 use mathlib.Core.Path.{◌≡◌, refl, sym, ◌∙◌, ap, subst}
 use mathlib.Core.Bool.{Bool, true, false, not, ◌&&◌}
@@ -27,7 +27,7 @@ use Rattle.query_records.specs.Decoded.{Means, operands_of}
 use Rattle.query_walks.specs.Parse.{Parsed, parse, Past, Free, Either}
 use Rattle.laws.proofs.Outcomes.{fails_gives}
 use Rattle.query_walks.proofs.Parsing.{trees_spans}
-use Rattle.query_walks.proofs.Callers.{unfound_parses, found-parses, shallow_parses}
+use Rattle.query_walks.proofs.Callers.{unfound_parses, found_parses, shallow_parses}
 use Rattle.query_walks.specs.Statements.{Spans}
 
 -- The record at an offset
@@ -39,14 +39,14 @@ module _ (bs : List ℕ) (at : ℕ) (r : Found) (m : Means r (record_of bs at (w
   pub parse_unsound : r ≡ Found.Unsound → (x : Query × ℕ) → parse d bs at ≡ gives x → ⊥
   parse_unsound h x p = fails_gives x (sym (unfound_parses bs at r m h d) ∙ p)
 
-  pub parse-sound :
+  pub parse_sound :
       (f : Decoded) (o p : Operands) → r ≡ Found.Sound f → (d ≡ 0 → ⊥) →
       o ≡ operands_of (Code.record_of f.kind) → o ≡ p →
       (x : Query × ℕ) → parse d bs at ≡ gives x → Spans (parse (d - 1) bs) f.next p x.0 x.1
-  parse-sound f o p h z q s x t =
+  parse_sound f o p h z q s x t =
       subst (λ (o : Operands). Spans (parse (d - 1) bs) f.next o x.0 x.1) (sym q ∙ s)
       (trees_spans (parse (d - 1) bs) f.next (Code.record_of f.kind) at x
-      (sym (found-parses bs at r m f h d z) ∙ t))
+      (sym (found_parses bs at r m f h d z) ∙ t))
 
 -- The end of a tree
 
@@ -105,10 +105,10 @@ only_flag u v l = go (ℕ_discrete v u)
         (get_or-set_other (replicate 8 false) u v true false h ∙ get_or-replicate 8 v false false l)
 
 -- one more flag of a row is done
-pub flags-more :
+pub flags_more :
     (P : ℕ → Bool) (row : List Bool) (v : ℕ) (b : Bool) → v < length row →
     ((u : ℕ) → u < v → get_or row u false ≡ P u) → b ≡ P v → (u : ℕ) → u < v + 1 → get_or (set row v b) u false ≡ P u
-flags-more P row v b h g e u l = go (ℕ_discrete u v)
+flags_more P row v b h g e u l = go (ℕ_discrete u v)
   where
     go : Dec (u ≡ v) → get_or (set row v b) u false ≡ P u
     go (yes p) = rw p (get_or-set_same row v b false h ∙ e)
@@ -127,26 +127,26 @@ module _ (rd : ℕ → Parsed) (next : ℕ) (q : Query) (e : ℕ) where
   unfolding Spans
   free_one fs g (x, p, n, f) v l = g x p v l ∙ sym (f v)
 
-  pub free-two :
+  pub free_two :
       (a : ℕ) (fs gs hs : List Bool) → Past (rd next) a → Free (rd next) fs → Free (rd a) gs → Either fs gs hs →
       Spans rd next Two q e → Flagged hs q
   unfolding Spans
-  free-two a fs gs hs k g h i (x, y, p, s, n, f) v l =
+  free_two a fs gs hs k g h i (x, y, p, s, n, f) v l =
       rw (i v l, g x p v l, h y (then rd next q e a x y k p s) v l) (sym (f v))
 
-  pub free-binding :
+  pub free_binding :
       (u a : ℕ) (fs gs hs : List Bool) →
       Past (rd next) a → Free (rd next) fs → Free (rd a) gs → Either fs (set gs u false) hs →
       Spans rd next (Binding u) q e → Flagged hs q
   unfolding Spans
-  free-binding u a fs gs hs k g h i (x, y, p, s, n, f) v l =
+  free_binding u a fs gs hs k g h i (x, y, p, s, n, f) v l =
       rw (i v l, clear_flag gs u v, g x p v l, h y (then rd next q e a x y k p s) v l) (sym (f v))
 
-  pub free-three :
+  pub free_three :
       (a b : ℕ) (fs gs hs is js : List Bool) → Past (rd next) a → Past (rd a) b →
       Free (rd next) fs → Free (rd a) gs → Free (rd b) hs → Either fs gs is → Either is hs js →
       Spans rd next Three q e → Flagged js q
   unfolding Spans
-  free-three a b fs gs hs is js k m g h i j o (w, x, y, p, s, t, n, f) v l =
+  free_three a b fs gs hs is js k m g h i j o (w, x, y, p, s, t, n, f) v l =
       let c = then rd next q e a w x k p s in
       rw (o v l, j v l, g w p v l, h x c v l, i y (then rd a q e b x y m c t) v l) (sym (f v))

@@ -20,7 +20,7 @@ use Rattle.meaning.specs.Query.{Read, query_read}
 use Rattle.meaning.specs.Calls.{Answer, Outcome, refusal, refused}
 use Rattle.pen.specs.Penned.{Pens}
 use Rattle.pen.proofs.Penned.{cleared_from_0}
-use Rattle.pen.proofs.Putting.{pens_length, pens-cleared}
+use Rattle.pen.proofs.Putting.{pens_length, pens_cleared}
 use Rattle.grammar.specs.Words.{symbol}
 use Rattle.grammar.specs.Grammar.{most_groups}
 use Rattle.grammar.specs.Typed.{Typed, TypedCall, outside, inside, records_outcome}
@@ -31,7 +31,7 @@ use Rattle.parsing.proofs.Theorems.{read_typed, refused_outside, never_one}
 use Rattle.recording.specs.Recorded.{most_bytes, Recorded}
 use Rattle.recording.specs.Agreeing.{Refused}
 use Rattle.recording.proofs.Recording.{recorded_none}
-use Rattle.recording.proofs.Answering.{recorded_whole, recorded_refused, recorded-answers}
+use Rattle.recording.proofs.Answering.{recorded_whole, recorded_refused, recorded_answers}
 use Rattle.operands.specs.Going.{Goes, Halts, Adding, part_value}
 use Rattle.queries.specs.declared.Checked.{Checked}
 use Rattle.queries.specs.declared.Checked.TheVariants as Checked
@@ -77,7 +77,7 @@ module _ (bs x : List ℕ) where
       let ends : n ≡ length bs = omega (arith, g.ends) in
       rw (e, le-leb (length bs) (length x) l)
       (same_outcome (ap (λ (k : ℕ). Answer.gives (k ∷ length bs ∷ [])) (sym count))
-      (f ∙ ap (λ (k : ℕ). padded 0 (length w) (take k w)) (sym ends) ∙ pens-cleared g l))
+      (f ∙ ap (λ (k : ℕ). padded 0 (length w) (take k w)) (sym ends) ∙ pens_cleared g l))
 
 pub hands_none : (n k p : ℕ) → Queries.answered (Checked.Records n) ≡ refused k p → ⊥
 unfolding Queries.answered
@@ -124,7 +124,7 @@ module _ (t : List ℕ) where
     inside_call r x y h =
         inside g.bytes is_typed
         (h ∙ ap (λ (bs : List ℕ). records_outcome (length x) bs (query_read bs)) from_zero
-        ∙ sym (recorded-answers held (length x)))
+        ∙ sym (recorded_answers held (length x)))
 
     held_sound : NeverUnsound (take to after)
     held_sound p e = go (leb (length g.bytes) most_bytes) refl

@@ -2,8 +2,8 @@
 -- begins one more, so it looks at no byte past 774.
 --     byte_alike, word_alike     what stands below 1,024
 --     record-alike               the record at an offset
---     agree-reading              what comes next, on readings that agree
---     agree-operands             a record and its operands
+--     agree_reading              what comes next, on readings that agree
+--     agree_operands             a record and its operands
 --     agree_read                 the query at an offset
 --     refused_alike              the whole of the bytes
 use Prim.Native.Nat.{ℕ, zero, suc, ◌+◌, ◌*◌, ◌≤◌, ◌<◌}
@@ -36,27 +36,27 @@ use Rattle.recording.specs.Agreeing.{Alike, Begun, Near, Agree, Refused}
 abbrev Short : ℕ → Record × ℕ → Type 0
 Short at x = x.1 ≤ at + 6
 
-sized-short :
+sized_short :
     (bs : List ℕ) (at n : ℕ) (r : Attempt Record) → n ≤ 6 → Given (Short at) (sized bs at n r)
 unfolding sized
-sized-short bs at n r h = given_provided (fits bs at n) (λ t. given_any r (λ x. given_gives (omega arith)))
+sized_short bs at n r h = given_provided (fits bs at n) (λ t. given_any r (λ x. given_gives (omega arith)))
 
 pub record-short : (bs : List ℕ) (at mark : ℕ) → Given (Short at) (record_of bs at mark)
 unfolding record_of
 record-short bs at mark =
-    given_cond (eqb mark mark_ql) (sized-short bs at 6 _ (omega arith))
-    (given_cond (eqb mark mark_qb) (sized-short bs at 3 _ (omega arith))
-    (given_cond (eqb mark mark_qe) (sized-short bs at 2 _ (omega arith))
-    (given_cond (eqb mark mark_qr) (sized-short bs at 3 _ (omega arith))
-    (given_cond (eqb mark mark_qv) (sized-short bs at 3 _ (omega arith))
-    (given_cond (eqb mark mark_qs) (sized-short bs at 2 _ (omega arith))
-    (given_cond (eqb mark mark_qt) (sized-short bs at 3 _ (omega arith))
-    (given_cond (eqb mark mark_qf) (sized-short bs at 3 _ (omega arith))
-    (given_cond (eqb mark mark_qi) (sized-short bs at 2 _ (omega arith))
-    (given_cond (eqb mark mark_qo) (sized-short bs at 3 _ (omega arith))
-    (given_cond (eqb mark mark_qc) (sized-short bs at 2 _ (omega arith))
-    (given_cond (eqb mark mark_qd) (sized-short bs at 2 _ (omega arith))
-    (given_cond (eqb mark mark_qx) (sized-short bs at 6 _ (omega arith)) given_fails))))))))))))
+    given_cond (eqb mark mark_ql) (sized_short bs at 6 _ (omega arith))
+    (given_cond (eqb mark mark_qb) (sized_short bs at 3 _ (omega arith))
+    (given_cond (eqb mark mark_qe) (sized_short bs at 2 _ (omega arith))
+    (given_cond (eqb mark mark_qr) (sized_short bs at 3 _ (omega arith))
+    (given_cond (eqb mark mark_qv) (sized_short bs at 3 _ (omega arith))
+    (given_cond (eqb mark mark_qs) (sized_short bs at 2 _ (omega arith))
+    (given_cond (eqb mark mark_qt) (sized_short bs at 3 _ (omega arith))
+    (given_cond (eqb mark mark_qf) (sized_short bs at 3 _ (omega arith))
+    (given_cond (eqb mark mark_qi) (sized_short bs at 2 _ (omega arith))
+    (given_cond (eqb mark mark_qo) (sized_short bs at 3 _ (omega arith))
+    (given_cond (eqb mark mark_qc) (sized_short bs at 2 _ (omega arith))
+    (given_cond (eqb mark mark_qd) (sized_short bs at 2 _ (omega arith))
+    (given_cond (eqb mark mark_qx) (sized_short bs at 6 _ (omega arith)) given_fails))))))))))))
 
 module _ {bs cs : List ℕ} (alike : Alike bs cs) where
   pub byte_alike : (i : ℕ) → i < most_bytes → byte_at bs i ≡ byte_at cs i
@@ -108,18 +108,18 @@ agree_refuses n p = record { same = refl; found = found_refuses }
 pub agree_reads : {A : Type 0} {P : A → Type 0} {x : A} → P x → Agree P (reads x) (reads x)
 agree_reads h = record { same = refl; found = found_reads h }
 
-pub agree-unless :
+pub agree_unless :
     {A : Type 0} {P : A → Type 0} {a b : Reading A} (t : Bool) (n p : ℕ) → (t ≡ true → Agree P a b) →
     Agree P (unless t n p a) (unless t n p b)
 unfolding unless
-agree-unless true n p h = h refl
-agree-unless false n p h = agree_refuses n p
+agree_unless true n p h = h refl
+agree_unless false n p h = agree_refuses n p
 
-pub agree-reading :
+pub agree_reading :
     {A B : Type 0} {P : A → Type 0} {Q : B → Type 0} {a b : Reading A} {f g : A → Reading B} → Agree P a b →
     ((x : A) → P x → Agree Q (f x) (g x)) → Agree Q (reading a f) (reading b g)
 unfolding reading
-agree-reading {A} {B} {P} {Q} {a} {b} {f} {g} h k =
+agree_reading {A} {B} {P} {Q} {a} {b} {f} {g} h k =
     subst (λ (c : Reading A). Agree Q (reading a f) (reading c g)) h.same (go a h.found)
   where
     go : (c : Reading A) → Found P c → Agree Q (reading c f) (reading c g)
@@ -128,7 +128,7 @@ agree-reading {A} {B} {P} {Q} {a} {b} {f} {g} h k =
 
 agree_one : {a b : Reading Read} (f : Query → Query) → Agree Near a b → Agree Near (one f a) (one f b)
 unfolding one leaf
-agree_one f h = agree-reading h (λ x n. agree_reads n)
+agree_one f h = agree_reading h (λ x n. agree_reads n)
 
 -- how an operand is read, from where it begins
 abbrev Reaching : Operand → Operand → Type 0
@@ -137,48 +137,48 @@ Reaching rd qd = (vs : List ℕ) (n at : ℕ) → Begun n at → Agree Near (rd 
 abbrev Following : (ℕ → ℕ → Reading Read) → (ℕ → ℕ → Reading Read) → Type 0
 Following c d = (n at : ℕ) → Begun n at → Agree Near (c n at) (d n at)
 
-agree-two :
+agree_two :
     {a b : Reading Read} {c d : ℕ → ℕ → Reading Read} (f : Query → Query → Query) → Agree Near a b → Following c d →
     Agree Near (two f a c) (two f b d)
 unfolding two
-agree-two f h k = agree-reading h (λ x n. agree_one (f x.tree) (k x.records x.next n))
+agree_two f h k = agree_reading h (λ x n. agree_one (f x.tree) (k x.records x.next n))
 
-agree-three :
+agree_three :
     {a b : Reading Read} {c d e g : ℕ → ℕ → Reading Read} (f : Query → Query → Query → Query) → Agree Near a b →
     Following c d → Following e g → Agree Near (three f a c e) (three f b d g)
 unfolding three
-agree-three f h k l = agree-reading h (λ x n. agree-two (f x.tree) (k x.records x.next n) l)
+agree_three f h k l = agree_reading h (λ x n. agree_two (f x.tree) (k x.records x.next n) l)
 
-pub agree-operands :
+pub agree_operands :
     (rd qd : Operand) → Reaching rd qd → (vs : List ℕ) (at n next : ℕ) (r : Record) → Begun n next →
     Agree Near (operands rd vs at n next r) (operands qd vs at n next r)
 unfolding operands leaf
-agree-operands rd qd k vs at n next (literal z) h = agree_reads h
-agree-operands rd qd k vs at n next empty h = agree_reads h
-agree-operands rd qd k vs at n next (root i) h = agree_reads h
-agree-operands rd qd k vs at n next (variable v) h = agree-unless (bound v vs) 3 at (λ t. agree_reads h)
-agree-operands rd qd k vs at n next sequence h = agree-two (QS at) (k vs n next h) (k vs)
-agree-operands rd qd k vs at n next (letting v) h = agree-two (QT at v) (k vs n next h) (k (v ∷ vs))
-agree-operands rd qd k vs at n next (for v) h = agree-two (QF at v) (k vs n next h) (k (v ∷ vs))
-agree-operands rd qd k vs at n next choice h = agree-three (QI at) (k vs n next h) (k vs) (k vs)
-agree-operands rd qd k vs at n next (function f) h = agree-two (QO at f) (k vs n next h) (k vs)
-agree-operands rd qd k vs at n next counting h = agree_one (QC at) (k vs n next h)
-agree-operands rd qd k vs at n next values h = agree_one (QD at) (k vs n next h)
-agree-operands rd qd k vs at n next (step x t) h = agree_one (QX at x t) (k vs n next h)
+agree_operands rd qd k vs at n next (literal z) h = agree_reads h
+agree_operands rd qd k vs at n next empty h = agree_reads h
+agree_operands rd qd k vs at n next (root i) h = agree_reads h
+agree_operands rd qd k vs at n next (variable v) h = agree_unless (bound v vs) 3 at (λ t. agree_reads h)
+agree_operands rd qd k vs at n next sequence h = agree_two (QS at) (k vs n next h) (k vs)
+agree_operands rd qd k vs at n next (letting v) h = agree_two (QT at v) (k vs n next h) (k (v ∷ vs))
+agree_operands rd qd k vs at n next (for v) h = agree_two (QF at v) (k vs n next h) (k (v ∷ vs))
+agree_operands rd qd k vs at n next choice h = agree_three (QI at) (k vs n next h) (k vs) (k vs)
+agree_operands rd qd k vs at n next (function f) h = agree_two (QO at f) (k vs n next h) (k vs)
+agree_operands rd qd k vs at n next counting h = agree_one (QC at) (k vs n next h)
+agree_operands rd qd k vs at n next values h = agree_one (QD at) (k vs n next h)
+agree_operands rd qd k vs at n next (step x t) h = agree_one (QX at x t) (k vs n next h)
 
 -- The whole
 
 module _ {bs cs : List ℕ} (alike : Alike bs cs) where
   pub agree_read : (d : ℕ) → Reaching (read d bs) (read d cs)
   unfolding read
-  agree_read zero vs n at h = agree-reading (record-alike alike at (omega arith)) (λ x s. agree_refuses 2 at)
+  agree_read zero vs n at h = agree_reading (record-alike alike at (omega arith)) (λ x s. agree_refuses 2 at)
   agree_read (suc d) vs n at h =
-      agree-reading (record-alike alike at (omega arith))
+      agree_reading (record-alike alike at (omega arith))
       (λ x s.
-      agree-unless (ltb n most_records) 2 at
+      agree_unless (ltb n most_records) 2 at
       (λ t.
       let l : n < most_records = ltb-true n most_records t in
-      agree-operands (read d bs) (read d cs) (agree_read d) vs at (suc n) x.1 x.0
+      agree_operands (read d bs) (read d cs) (agree_read d) vs at (suc n) x.1 x.0
       (record { few = omega arith; near = omega arith })))
 
   pub refused_alike : Refused (query_read bs) (query_read cs)

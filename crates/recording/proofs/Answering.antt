@@ -2,7 +2,7 @@
 -- refused as they are.
 --     recorded_whole      up to 1,024 bytes: all of them
 --     recorded_refused    from 1,024 bytes on: refused with the same number and place
---     recorded-answers    so the outcome of the records is that of the bytes of the array
+--     recorded_answers    so the outcome of the records is that of the bytes of the array
 use Prim.Native.Nat.{ℕ, ◌≤◌, ◌<◌}
 use mathlib.Core.Path.{◌≡◌, refl, sym, ◌∙◌, ap}
 use mathlib.Core.List.{List}
@@ -33,11 +33,11 @@ module _ {bs bytes : List ℕ} {made : ℕ} (recorded : Recorded bs bytes made) 
         front = sym recorded.holds ∙ sym (take_all most_bytes (take made bytes) (omega arith));
       })
 
-  pub recorded-answers :
+  pub recorded_answers :
       (lent : ℕ) →
       records_outcome lent bs (query_read bs) ≡ records_outcome lent (take made bytes) (query_read (take made bytes))
   unfolding records_outcome
-  recorded-answers lent = go (leb (length bs) most_bytes) refl
+  recorded_answers lent = go (leb (length bs) most_bytes) refl
     where
       go :
           (t : Bool) → leb (length bs) most_bytes ≡ t →

@@ -1,7 +1,7 @@
 -- Laws of the two loops, a byte at a time.
---     puts_none, puts-more       nothing put; one byte more
---     shifts_none, shifts-more   nothing moved; one byte more, below those that were moved
---     shifts-all                 moved down to `from`
+--     puts_none, puts_more       nothing put; one byte more
+--     shifts_none, shifts_more   nothing moved; one byte more, below those that were moved
+--     shifts_all                 moved down to `from`
 use Prim.Native.Nat.{ℕ, ◌+◌, ◌≤◌, ◌<◌}
 use mathlib.Core.Path.{◌≡◌, refl, sym, ◌∙◌, ap}
 use mathlib.Core.List.{List}
@@ -20,10 +20,10 @@ puts_none at part bytes =
 last_or : (j n : ℕ) → j < n + 1 → (j < n) ⊎ (j ≡ n)
 last_or j n h = ⊎_elim (λ e. inr e) (λ k. inl k) (eq-or-lt_of_le (omega arith))
 
-pub puts-more :
+pub puts_more :
     (at : ℕ) (part : List ℕ) (n : ℕ) (before after : List ℕ) → at + n < length after → Puts at part n before after →
     Puts at part (n + 1) before (set after (at + n) (get_or part n 0))
-puts-more at part n before after h p =
+puts_more at part n before after h p =
     record {
       put =
           λ j l.
@@ -46,10 +46,10 @@ shifts_none from by last bytes =
 first_or : (j i n : ℕ) → i ≡ n + 1 → n ≤ j → (i ≤ j) ⊎ (j ≡ n)
 first_or j i n e h = ⊎_elim (λ x. inr (sym x)) (λ k. inl (omega arith)) (eq-or-lt_of_le h)
 
-pub shifts-more :
+pub shifts_more :
     (from by last i n : ℕ) (before after : List ℕ) → i ≡ n + 1 → from ≤ n → n + by < length after →
     Shifts from by last i before after → Shifts from by last n before (set after (n + by) (get_or after n 0))
-shifts-more from by last i n before after e f h s =
+shifts_more from by last i n before after e f h s =
     record {
       moved =
           λ j l k.
@@ -65,8 +65,8 @@ shifts-more from by last i n before after e f h s =
       below = λ j l. get_or-set_other after (n + by) j (get_or after n 0) 0 (λ x. omega arith) ∙ s.below j l;
     }
 
-pub shifts-all :
+pub shifts_all :
     (from by last i : ℕ) (before after : List ℕ) → i ≤ from → Shifts from by last i before after →
     Moves from by last before after
-shifts-all from by last i before after h s =
+shifts_all from by last i before after h s =
     record { moved = λ j l k. s.moved j (omega arith) k; below = s.below }

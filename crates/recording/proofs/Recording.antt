@@ -1,11 +1,11 @@
 -- Laws of what is recorded.
---     recorded-at     a recorded byte is the one of the list
---     recorded-by     recorded, by its bytes
+--     recorded_at     a recorded byte is the one of the list
+--     recorded_by     recorded, by its bytes
 --     added           a part put behind
 --     inserted        a part put where the rest was moved on
 --     recorded_none, recorded_length     nothing is recorded yet; how many bytes are
---     adds_none, adds-more, adds-as      nothing added; one part after another; a part by another name
---     adds-insert     a part put in before what was added: both are added
+--     adds_none, adds_more, adds_as      nothing added; one part after another; a part by another name
+--     adds_insert     a part put in before what was added: both are added
 use Prim.Native.Nat.{ℕ, ◌+◌, ◌-◌, ◌≤◌, ◌<◌, min}
 use mathlib.Core.Path.{◌≡◌, refl, sym, ◌∙◌, ap, subst}
 use mathlib.Core.List.{List, [], ◌++◌, append_assoc, append-nil}
@@ -19,17 +19,17 @@ use lib.Seq.{length-take-le, get_or-take, get_or-append-add, ext_get_or}
 use Rattle.recording.specs.Recorded.{most_bytes, Recorded, Adds, Inserts}
 use Rattle.recording.specs.Moves.{Puts, Moves}
 
-pub recorded-at :
+pub recorded_at :
     {xs bytes : List ℕ} {made : ℕ} → Recorded xs bytes made → (i : ℕ) → i < made → get_or bytes i 0 ≡ get_or xs i 0
-recorded-at {xs} {bytes} {made} r i h =
+recorded_at {xs} {bytes} {made} r i h =
     sym (get_or-take made bytes i 0 h)
     ∙ ap (λ (l : List ℕ). get_or l i 0) r.holds
     ∙ get_or-take most_bytes xs i 0 (omega (arith, r.counts))
 
-pub recorded-by :
+pub recorded_by :
     (xs bytes : List ℕ) (made : ℕ) → length bytes ≡ most_bytes → made ≡ min (length xs) most_bytes →
     ((i : ℕ) → i < made → get_or bytes i 0 ≡ get_or xs i 0) → Recorded xs bytes made
-recorded-by xs bytes made l e h =
+recorded_by xs bytes made l e h =
     record {
       long = l;
       counts = e;
@@ -57,7 +57,7 @@ added part made next before after small long e p =
   where
     adding : (xs : List ℕ) → Recorded xs before made → Recorded (xs ++ part) after next
     adding xs r =
-        recorded-by (xs ++ part) after next long (rw length-append (omega (arith, r.counts)))
+        recorded_by (xs ++ part) after next long (rw length-append (omega (arith, r.counts)))
         (λ i h. byte i h (within_or i (length xs) (length part) (omega (arith, r.counts))))
       where
         byte :
@@ -65,7 +65,7 @@ added part made next before after small long e p =
             get_or after i 0 ≡ get_or (xs ++ part) i 0
         byte i h (inl k) =
             let m : i < made = omega (arith, r.counts) in
-            p.below i m ∙ recorded-at r i m ∙ sym (get_or-append xs part 0 i k)
+            p.below i m ∙ recorded_at r i m ∙ sym (get_or-append xs part 0 i k)
         byte i h (inr (j, k, x)) =
             let y : i ≡ made + j = omega (arith, r.counts) in
             ap (λ (m : ℕ). get_or after m 0) y
@@ -84,7 +84,7 @@ inserted part from made next before between after low small short long e m p =
         (xs ys : List ℕ) → from ≡ min (length xs) most_bytes → Recorded (xs ++ ys) before made →
         Recorded (xs ++ (part ++ ys)) after next
     inserting xs ys f r =
-        recorded-by (xs ++ (part ++ ys)) after next long
+        recorded_by (xs ++ (part ++ ys)) after next long
         (simp length-append (omega (arith, whole)))
         (λ i h. byte i h (within_or i (length xs) (length part + length ys) (omega (arith, whole))))
       where
@@ -103,7 +103,7 @@ inserted part from made next before between after low small short long e m p =
             p.above i (omega arith)
             ∙ ap (λ (n : ℕ). get_or between n 0) y
             ∙ m.moved (from + k) (omega arith) (omega (arith, whole))
-            ∙ recorded-at r (from + k) (omega (arith, whole))
+            ∙ recorded_at r (from + k) (omega (arith, whole))
             ∙ ap (λ (n : ℕ). get_or (xs ++ ys) n 0) (omega arith)
             ∙ get_or-append-add xs ys k 0
             ∙ sym (ap (λ (n : ℕ). get_or (part ++ ys) n 0) z ∙ get_or-append-add part ys k 0)
@@ -115,7 +115,7 @@ inserted part from made next before between after low small short long e m p =
             let n : i < from = omega arith in
             p.below i n
             ∙ m.below i n
-            ∙ recorded-at r i (omega arith)
+            ∙ recorded_at r i (omega arith)
             ∙ get_or-append xs ys 0 i k
             ∙ sym (get_or-append xs (part ++ ys) 0 i k)
         byte i h (inr (j, k, x)) =
@@ -123,7 +123,7 @@ inserted part from made next before between after low small short long e m p =
             ∙ sym (ap (λ (n : ℕ). get_or (xs ++ (part ++ ys)) n 0) x ∙ get_or-append-add xs (part ++ ys) j 0)
 
 pub recorded_none : (bytes : List ℕ) → length bytes ≡ most_bytes → Recorded [] bytes 0
-recorded_none bytes h = recorded-by [] bytes 0 h refl (λ i k. absurd (omega arith))
+recorded_none bytes h = recorded_by [] bytes 0 h refl (λ i k. absurd (omega arith))
 
 pub recorded_length : {xs bytes : List ℕ} {made : ℕ} → Recorded xs bytes made → length (take made bytes) ≡ made
 recorded_length {bytes = bytes} {made = made} r =
@@ -135,26 +135,26 @@ pub adds_none : (made : ℕ) (bytes : List ℕ) → made ≤ most_bytes → Adds
 adds_none made bytes h =
     record { grows = omega arith; within = h; adds = λ xs r. rw (append-nil xs) r }
 
-pub adds-as :
+pub adds_as :
     {p q before after : List ℕ} {made next : ℕ} → p ≡ q → Adds p made before after next →
     Adds q made before after next
-adds-as {before = before} {after = after} {made = made} {next = next} e h =
+adds_as {before = before} {after = after} {made = made} {next = next} e h =
     subst (λ (l : List ℕ). Adds l made before after next) e h
 
-pub adds-more :
+pub adds_more :
     {p q before between after : List ℕ} {made m next : ℕ} → Adds p made before between m →
     Adds q m between after next → Adds (p ++ q) made before after next
-adds-more {p = p} {q = q} h k =
+adds_more {p = p} {q = q} h k =
     record {
       grows = omega (arith, h.grows, k.grows);
       within = k.within;
       adds = λ xs r. rw append_assoc at (k.adds (xs ++ p) (h.adds xs r));
     }
 
-pub adds-insert :
+pub adds_insert :
     {p part before between after : List ℕ} {from made next : ℕ} → Adds p from before between made →
     Inserts part from made between after next → Adds (part ++ p) from before after next
-adds-insert {p = p} h k =
+adds_insert {p = p} h k =
     record {
       grows = omega (arith, h.grows, k.grows);
       within = k.within;

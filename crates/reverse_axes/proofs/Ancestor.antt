@@ -22,7 +22,7 @@ use Rattle.meaning.specs.World.{axis_holds, on_axis}
 use Rattle.doc_rows.specs.Nested.{Nested}
 use Rattle.doc_rows.proofs.Fragments.{fragment_covered}
 use Rattle.nodesets.specs.Nodes.{ranks}
-use Rattle.nodesets.proofs.Ranks.{any-is}
+use Rattle.nodesets.proofs.Ranks.{any_is}
 use Rattle.step_parts.proofs.Conditions.{on_axis_lem, axis_of_lem, descendant, descendant_of}
 
 pub record Next (n : ℕ) (ms : List Bool) (i next : ℕ) : Type 0 where
@@ -51,7 +51,7 @@ module _ (c : Catalogue) (n : ℕ) (s : Nested n c.size c.level) (ms : List Bool
 
     pub next_flag : leb next (v + c.size v) ≡ any (λ x. on_axis c Ancestor x v) (ranks n ms)
     unfolding axis_holds
-    next_flag = any-is (λ x. on_axis c Ancestor x v) ms n (leb next (v + c.size v)) to_hit from_hit
+    next_flag = any_is (λ x. on_axis c Ancestor x v) ms n (leb next (v + c.size v)) to_hit from_hit
       where
         to_hit :
             leb next (v + c.size v) ≡ true

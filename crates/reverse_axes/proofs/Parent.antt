@@ -5,7 +5,7 @@
 --       bound                      each of them has its level's flag set
 --       held                       a flag that is set stands for one of them
 --     waits_begin                  past the last row
---     waits-more                   at the row before
+--     waits_more                   at the row before
 --     waits_flag                   v is the parent of a marked row exactly when the flag of the level below it is set
 use Prim.Native.Nat.{ℕ, zero, suc, ◌+◌, ◌≤◌, ◌<◌}
 use mathlib.Core.Path.{◌≡◌, refl, sym, ap, ◌∙◌}
@@ -25,7 +25,7 @@ use Rattle.doc_rows.specs.Nested.{Nested}
 use Rattle.doc_rows.proofs.Fragments.{fragment_covered}
 use Rattle.nodesets.specs.Nodes.{ranks}
 use Rattle.nodesets.proofs.Tests.{or_cases, or_left, or_right, le_or_lt}
-use Rattle.nodesets.proofs.Ranks.{any-is}
+use Rattle.nodesets.proofs.Ranks.{any_is}
 use Rattle.step_parts.proofs.Conditions.{on_axis_lem, axis_of_lem, child, child_of}
 
 -- a marked row from i on, of level l, with no row from i up to it above its level
@@ -163,11 +163,11 @@ module _ (c : Catalogue) (n : ℕ) (s : Nested n c.size c.level) (ms : List Bool
         by_level (no k) (yes d) = clash t (ap (λ y. get_or past y false) d ∙ past_below)
         by_level (no k) (no d) = before (sym (past_other l k d) ∙ t) d
 
-    pub waits-more :
+    pub waits_more :
         Waits n c.level ms v
         (set (set waits (c.level v + 1) false) (c.level v) (get_or waits (c.level v) false || get_or ms v false))
     unfolding past
-    waits-more =
+    waits_more =
         record {
           long =
               length-set (set waits (c.level v + 1) false) (c.level v)
@@ -194,7 +194,7 @@ module _ (c : Catalogue) (n : ℕ) (s : Nested n c.size c.level) (ms : List Bool
 
     pub waits_flag : get_or waits (c.level v + 1) false ≡ any (λ x. on_axis c Parent x v) (ranks n ms)
     unfolding axis_holds
-    waits_flag = any-is (λ x. on_axis c Parent x v) ms n (get_or waits (c.level v + 1) false) to_hit from_hit
+    waits_flag = any_is (λ x. on_axis c Parent x v) ms n (get_or waits (c.level v + 1) false) to_hit from_hit
       where
         to_hit :
             get_or waits (c.level v + 1) false ≡ true

@@ -21,7 +21,7 @@ use Rattle.laws.proofs.Booleans.{clash}
 use Rattle.meaning.specs.Catalogue.{Catalogue}
 use Rattle.meaning.specs.World.{axis_holds, on_axis}
 use Rattle.nodesets.specs.Nodes.{ranks}
-use Rattle.nodesets.proofs.Ranks.{any-is}
+use Rattle.nodesets.proofs.Ranks.{any_is}
 use Rattle.step_parts.proofs.Fragments.{Deep, entering, deep_same, same_deep}
 use Rattle.step_parts.proofs.Conditions.{on_axis_lem, axis_of_lem, fragment_of_lem}
 
@@ -96,7 +96,7 @@ module _ (c : Catalogue) (n : ℕ) (ms : List Bool) where
 
     pub last_flag : ltb (v + c.size v) last ≡ any (λ x. on_axis c Preceding x v) (ranks n ms)
     unfolding axis_holds
-    last_flag = any-is (λ x. on_axis c Preceding x v) ms n (ltb (v + c.size v) last) to_hit from_hit
+    last_flag = any_is (λ x. on_axis c Preceding x v) ms n (ltb (v + c.size v) last) to_hit from_hit
       where
         to_hit :
             ltb (v + c.size v) last ≡ true

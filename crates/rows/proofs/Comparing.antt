@@ -21,10 +21,10 @@ module _ (xs : List ℤ) (a b w : ℕ) where
   cells_all = simp (add-zero, sub-zero)
 
   module _ (i : ℕ) (here : i < w) (insideA : a + w ≤ length xs) (insideB : b + w ≤ length xs) where
-    cells-split :
+    cells_split :
         rest_same xs a b w i ≡ (same (get_or xs (a + i) (pos 0)) (get_or xs (b + i) (pos 0)) && rest_same xs a b w (i + 1))
     unfolding same_row
-    cells-split =
+    cells_split =
         let e : w - i ≡ suc (w - (i + 1)) = omega arith in
         let f : suc (a + i) ≡ a + (i + 1) = omega arith in
         let g : suc (b + i) ≡ b + (i + 1) = omega arith in
@@ -37,10 +37,10 @@ module _ (xs : List ℤ) (a b w : ℕ) where
     pub cells_same :
         same (get_or xs (a + i) (pos 0)) (get_or xs (b + i) (pos 0)) ≡ true
         → rest_same xs a b w i ≡ rest_same xs a b w (i + 1)
-    cells_same e = cells-split ∙ ap (λ (t : Bool). t && rest_same xs a b w (i + 1)) e
+    cells_same e = cells_split ∙ ap (λ (t : Bool). t && rest_same xs a b w (i + 1)) e
 
     pub cells_differ : same (get_or xs (a + i) (pos 0)) (get_or xs (b + i) (pos 0)) ≡ false → rest_same xs a b w i ≡ false
-    cells_differ e = cells-split ∙ ap (λ (t : Bool). t && rest_same xs a b w (i + 1)) e
+    cells_differ e = cells_split ∙ ap (λ (t : Bool). t && rest_same xs a b w (i + 1)) e
 
   pub cells_through : (i : ℕ) → i ≡ w → rest_same xs a b w i ≡ true
   unfolding same_row row

@@ -62,11 +62,11 @@ module _ (plan : List ℕ) (c : Catalogue) (xs : List ℤ) (ts : List Table) whe
     unfolding make
     makes_RA z = ap (λ (l : Table). gives (attach l z)) (sym stands) ∙ attach_is plan c xs (table_at xs s) z
 
-    pub makes-RP :
+    pub makes_RP :
         (n k : ℕ) → make (world_of c) (RP t (columns_at plan k n)) ts
         ≡ each (made plan c xs (Project n k)) (table_at xs s)
     unfolding make
-    makes-RP n k =
+    makes_RP n k =
         ap (λ (l : Table). gives (project l (columns_at plan k n))) (sym stands)
         ∙ project_is plan c xs (table_at xs s) n k
 
@@ -74,11 +74,11 @@ module _ (plan : List ℕ) (c : Catalogue) (xs : List ℤ) (ts : List Table) whe
     unfolding make
     makes_RS k = ap (λ (l : Table). gives (select l k)) (sym stands) ∙ select_is plan c xs (table_at xs s) k
 
-    pub makes-RF :
+    pub makes_RF :
         (f : Function) (k d : ℕ)
         → make (world_of c) (RF t f k d) ts ≡ each (made plan c xs (Apply f k d)) (table_at xs s)
     unfolding make world_of
-    makes-RF f k d =
+    makes_RF f k d =
         ap (added (λ r. arith f (cell r k) (cell r d))) (sym stands)
         ∙ function_is plan c xs (table_at xs s) f k d
 

@@ -2,7 +2,7 @@
 --     task-..             the width, the fitness and the promise of an equal task
 --     suits_worked        a task that suits reads columns only
 --     suits_up            .. suits further up, too
---     made-laid           a task makes of a row what it made before rows were laid behind
+--     made_laid           a task makes of a row what it made before rows were laid behind
 --     settling_rest       the tasks other than RF's never fail
 --     settled_all         a task that fails on no row gives rows
 --     fails_some          .. that fails on some row fails
@@ -17,7 +17,7 @@ use lib.IntN.{ℤ}
 use lib.ListN.{length}
 use Rattle.laws.specs.Lists.{any, all}
 use Rattle.laws.specs.Rows.{row, laid}
-use Rattle.laws.proofs.Rows.{row_laid, rowsAt-laid}
+use Rattle.laws.proofs.Rows.{row_laid, rows_at_laid}
 use Rattle.laws.specs.Attempt.{Attempt, fails, gives, attempt, each}
 use Rattle.meaning.specs.Catalogue.{Catalogue}
 use Rattle.meaning.specs.Operators.{Row, Table, cell, same_row}
@@ -41,11 +41,11 @@ module _ (task k : Task) (e : task ≡ k) where
   pub task_suits : (plan : List ℕ) (top w : ℕ) → Suits plan top w task → Suits plan top w k
   task_suits plan top w h = subst (Suits plan top w) e h
 
-  pub task-owes :
+  pub task_owes :
       (room at w : ℕ) (plan : List ℕ) (c : Catalogue) (xs ys : List ℤ) (r : Row) (o : Laid) →
       Owes room at (wider w k) (made plan c xs k r) xs ys o
       → Owes room at (wider w task) (made plan c xs task r) xs ys o
-  task-owes room at w plan c xs ys r o h =
+  task_owes room at w plan c xs ys r o h =
       subst (λ (t : Task). Owes room at (wider w t) (made plan c xs t r) xs ys o) (sym e) h
 
   pub task_worked : (w : ℕ) → Worked w task → Worked w k
@@ -85,24 +85,24 @@ suits_up plan top up w (Value k) g h = h
 module _ (plan : List ℕ) (c : Catalogue) (xs : List ℤ) (at : ℕ) (vs : List ℤ) (inside : at ≤ length xs) where
   table_laid : (s : Stand) → Inside at s → table_at (laid xs at vs) s ≡ table_at xs s
   unfolding table_at Inside
-  table_laid s h = rowsAt-laid xs at vs s.at s.rows s.width h inside
+  table_laid s h = rows_at_laid xs at vs s.at s.rows s.width h inside
 
-  made-over :
+  made_over :
       (w : ℕ) (task : Task) (r : Row) → Suits plan at w task
       → made plan c (laid xs at vs) task r ≡ made plan c xs task r
   unfolding made Suits
-  made-over w (Attach z) r h = refl
-  made-over w (Project n k) r h = refl
-  made-over w (Minus s) r h = ap (λ (t : Table). gives (cond (any (same_row r) t) [] (r ∷ []))) (table_laid s h.0)
-  made-over w (Select k) r h = refl
-  made-over w (Apply f k d) r h = refl
-  made-over w (Value k) r h = refl
+  made_over w (Attach z) r h = refl
+  made_over w (Project n k) r h = refl
+  made_over w (Minus s) r h = ap (λ (t : Table). gives (cond (any (same_row r) t) [] (r ∷ []))) (table_laid s h.0)
+  made_over w (Select k) r h = refl
+  made_over w (Apply f k d) r h = refl
+  made_over w (Value k) r h = refl
 
-  pub made-laid :
+  pub made_laid :
       (ys : List ℤ) (a w : ℕ) (task : Task) → ys ≡ laid xs at vs → a + w ≤ at → Suits plan at w task →
       made plan c xs task (row xs a w) ≡ made plan c ys task (row ys a w)
-  made-laid ys a w task e h s =
-      sym (made-over w task (row xs a w) s)
+  made_laid ys a w task e h s =
+      sym (made_over w task (row xs a w) s)
       ∙ ap₂ (λ (zs : List ℤ) (r : Row). made plan c zs task r) (sym e)
       (sym (row_laid xs at vs a w h inside) ∙ ap (λ (l : List ℤ). row l a w) (sym e))
 
@@ -111,16 +111,16 @@ unfolding attempt succeeds Settled
 by_cell_lem fails g = refl
 by_cell_lem (gives z) g = (g z, refl)
 
-by-task :
+by_task :
     (plan : List ℕ) (c : Catalogue) (xs : List ℤ) (task : Task) (r : Row)
     → Decided (made plan c xs task r) (settling c task r)
 unfolding made settling Settled
-by-task plan c xs (Attach z) r = (_, refl)
-by-task plan c xs (Project n k) r = (_, refl)
-by-task plan c xs (Minus s) r = (_, refl)
-by-task plan c xs (Select k) r = (_, refl)
-by-task plan c xs (Apply f k d) r = by_cell_lem (function f (cell r k) (cell r d)) (λ z. (r ++ (z ∷ [])) ∷ [])
-by-task plan c xs (Value k) r = by_cell_lem (value c (cell r k)) (λ z. (r ++ (z ∷ [])) ∷ [])
+by_task plan c xs (Attach z) r = (_, refl)
+by_task plan c xs (Project n k) r = (_, refl)
+by_task plan c xs (Minus s) r = (_, refl)
+by_task plan c xs (Select k) r = (_, refl)
+by_task plan c xs (Apply f k d) r = by_cell_lem (function f (cell r k) (cell r d)) (λ z. (r ++ (z ∷ [])) ∷ [])
+by_task plan c xs (Value k) r = by_cell_lem (value c (cell r k)) (λ z. (r ++ (z ∷ [])) ∷ [])
 
 by_rows :
     {A : Type 0} (f : A → Attempt Table) (p : A → Bool) → ((x : A) → Decided (f x) (p x)) → (xs : List A)
@@ -139,9 +139,9 @@ module _ (plan : List ℕ) (c : Catalogue) (xs : List ℤ) (task : Task) (t : Ta
   pub settled_all : all (settling c task) t ≡ true → Settled (each (made plan c xs task) t)
   settled_all e =
       subst (Decided (each (made plan c xs task) t)) e
-      (by_rows (made plan c xs task) (settling c task) (by-task plan c xs task) t)
+      (by_rows (made plan c xs task) (settling c task) (by_task plan c xs task) t)
 
   pub fails_some : all (settling c task) t ≡ false → each (made plan c xs task) t ≡ fails
   fails_some e =
       subst (Decided (each (made plan c xs task) t)) e
-      (by_rows (made plan c xs task) (settling c task) (by-task plan c xs task) t)
+      (by_rows (made plan c xs task) (settling c task) (by_task plan c xs task) t)

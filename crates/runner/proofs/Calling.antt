@@ -1,9 +1,9 @@
 -- Plan, then catalogue, then work (document 01, 'The eight refusals').
 --     accepted, unaccepted      what the plan check's answer tells
 --     known_rows                a catalogue that was accepted is one that steps can walk
---     refusal-leaves            a refusal leaves zeros, once all cells are cleared
---     walked-leaves             what the operators come to, as what the call answers and leaves
---     bad-plan-leaves, bad-catalogue-leaves, run-leaves     each of the three, as what the whole call answers and
+--     refusal_leaves            a refusal leaves zeros, once all cells are cleared
+--     walked_leaves             what the operators come to, as what the call answers and leaves
+--     bad_plan_leaves, bad_catalogue_leaves, run_leaves     each of the three, as what the whole call answers and
 --                                                           leaves
 --     none_filled               a refusal fills no cell
 --     cleared                   what is left once the cells past the filled are zero
@@ -42,20 +42,20 @@ use Rattle.runner.specs.Calling.{LeavesRan}
 use Rattle.runner.specs.contracts.Ran.{the_type}
 
 -- a refusal leaves zeros
-refusal-leaves :
+refusal_leaves :
     (n p lent : ℕ) (cells : List ℤ) (r : Ran) → length cells ≡ lent → answered r ≡ Calls.refused n p → filled_by r ≡ 0 →
     LeavesRan (refusal (pos 0) lent n p) cells r
 unfolding refusal padded
-refusal-leaves n p lent cells r l a f =
+refusal_leaves n p lent cells r l a f =
     let none : lent - 0 ≡ lent = omega arith in
     record { answer = a; left = rw (f, l) (ap (λ (k : ℕ). replicate k (pos 0)) none); within = omega arith }
 
 -- the tables stand, or the operators refuse
-walked-leaves :
+walked_leaves :
     (o : Work Filled) (cells : List ℤ) (w : Walked) → Walks o cells w →
     LeavesRan (run_outcome (length cells) (reads o)) cells (concluding w)
 unfolding Walks run_outcome concluding answered filled_by
-walked-leaves o cells (Walked.Tables start rows filled) (f, e, t) =
+walked_leaves o cells (Walked.Tables start rows filled) (f, e, t) =
     subst (λ (x : Work Filled). LeavesRan (run_outcome (length cells) (reads x)) cells
     (concluding (Walked.Tables start rows filled)))
     (sym e)
@@ -72,14 +72,14 @@ walked-leaves o cells (Walked.Tables start rows filled) (f, e, t) =
     told =
         ap (λ (s : ℕ). Calls.gives (s ∷ rows ∷ filled ∷ [])) t.from
         ∙ ap₂ (λ (n r : ℕ). Calls.gives ((n - r * 3) ∷ r ∷ n ∷ [])) t.count t.last
-walked-leaves o cells (Walked.Full p) e =
+walked_leaves o cells (Walked.Full p) e =
     subst (λ (x : Work Filled). LeavesRan (run_outcome (length cells) (reads x)) cells (concluding (Walked.Full p)))
     (sym e)
-    (refusal-leaves 6 p (length cells) cells (concluding (Walked.Full p)) refl refl refl)
-walked-leaves o cells (Walked.Fails p) e =
+    (refusal_leaves 6 p (length cells) cells (concluding (Walked.Full p)) refl refl refl)
+walked_leaves o cells (Walked.Fails p) e =
     subst (λ (x : Work Filled). LeavesRan (run_outcome (length cells) (reads x)) cells (concluding (Walked.Fails p)))
     (sym e)
-    (refusal-leaves 7 p (length cells) cells (concluding (Walked.Fails p)) refl refl refl)
+    (refusal_leaves 7 p (length cells) cells (concluding (Walked.Fails p)) refl refl refl)
 
 module _ (plan : List ℕ) where
   accepted_of :
@@ -103,14 +103,14 @@ module _ (plan : List ℕ) where
     unfolding checked plan_count
     unaccepted p h = unaccepted_of (plan_read plan) p (sym (ap checked h) ∙ e)
 
-    pub bad-plan-leaves :
+    pub bad_plan_leaves :
         (doc : List ℕ) (lent p : ℕ) (cells : List ℤ) (r : Ran) → length cells ≡ lent → k ≡ Planned.Unsound p →
         r ≡ bad_plan k →
         LeavesRan (run_call plan doc lent) cells r
     unfolding run_call run_outcome reading answered filled_by
-    bad-plan-leaves doc lent p cells r l h i =
+    bad_plan_leaves doc lent p cells r l h i =
         let q : r ≡ Ran.BadPlan p = i ∙ ap bad_plan h in
-        rw (unaccepted p h) (refusal-leaves 5 p lent cells r l (ap answered q) (ap filled_by q))
+        rw (unaccepted p h) (refusal_leaves 5 p lent cells r l (ap answered q) (ap filled_by q))
 
 module _ (doc : List ℕ) (k : Catalogued) (e : Answers.answered k ≡ Calls.catalogue_call doc) where
   module _ (n : ℕ) (h : k ≡ Catalogued.Rows n) where
@@ -123,15 +123,15 @@ module _ (doc : List ℕ) (k : Catalogued) (e : Answers.answered k ≡ Calls.cat
         let s = Catalogues.accepted_sound doc n told in
         record { few = s.few; there = omega (arith, s.whole); nested = s.nested }
 
-    pub run-leaves :
+    pub run_leaves :
         (plan : List ℕ) (lent : ℕ) (cells : List ℤ) (w : Walked) (r : Ran) → AcceptedPlan plan → length cells ≡ lent →
         Walks (carried_out plan doc n (room lent)) cells w → r ≡ concluding w → LeavesRan (run_call plan doc lent) cells r
     unfolding run_call reading
-    run-leaves plan lent cells w r a l h i =
+    run_leaves plan lent cells w r a l h i =
         subst (λ (q : Ran). LeavesRan (run_call plan doc lent) cells q) (sym i)
         (subst (λ (o : Outcome ℤ). LeavesRan o cells (concluding w)) (sym same)
         (subst (λ (k : ℕ). LeavesRan (run_outcome k (reads (carried_out plan doc n (room lent)))) cells (concluding w)) l
-        (walked-leaves (carried_out plan doc n (room lent)) cells w h)))
+        (walked_leaves (carried_out plan doc n (room lent)) cells w h)))
       where
         go : Catalogue → List Placed → Outcome ℤ
         go c ps = run_outcome lent (reads (running (world_of c) (room lent) ps [] 0))
@@ -147,12 +147,12 @@ module _ (doc : List ℕ) (k : Catalogued) (e : Answers.answered k ≡ Calls.cat
             (λ c. reads (running (world_of c) (room lent) (operators_of plan) [] 0))))
             (Catalogues.accepted doc n told)
 
-  pub bad-catalogue-leaves :
+  pub bad_catalogue_leaves :
       (plan : List ℕ) (lent p : ℕ) (cells : List ℤ) (r : Ran) → AcceptedPlan plan → length cells ≡ lent →
       k ≡ Catalogued.Unsound p →
       r ≡ bad_catalogue k → LeavesRan (run_call plan doc lent) cells r
   unfolding run_call run_outcome reading answered filled_by
-  bad-catalogue-leaves plan lent p cells r a l h i =
+  bad_catalogue_leaves plan lent p cells r a l h i =
       let q : r ≡ Ran.BadCatalogue p = i ∙ ap bad_catalogue h in
       let bad : catalogue_read doc ≡ refuses 4 p = Catalogues.unsound doc p (sym (ap Answers.answered h) ∙ e) in
       let same : run_call plan doc lent ≡ refusal (pos 0) lent 4 p =
@@ -163,7 +163,7 @@ module _ (doc : List ℕ) (k : Catalogued) (e : Answers.answered k ≡ Calls.cat
       ∙ ap
       (λ (m : Reading Catalogue). run_outcome lent (reading m (λ c. reads
       (running (world_of c) (room lent) (operators_of plan) [] 0)))) bad in
-      subst (λ (o : Outcome ℤ). LeavesRan o cells r) (sym same) (refusal-leaves 4 p lent cells r l (ap answered q)
+      subst (λ (o : Outcome ℤ). LeavesRan o cells r) (sym same) (refusal_leaves 4 p lent cells r l (ap answered q)
       (ap filled_by q))
 
 -- the cells past the filled are zero

@@ -3,7 +3,7 @@
 --     Going ..            the loop's invariant, with n tables in `filled` cells and the plan's next record at offset
 --                         `at`
 --     going_start         nothing has been done
---     turn_fails, turn-full, turn_more     the next operator fails; it passes the room; it has laid its table
+--     turn_fails, turn_full, turn_more     the next operator fails; it passes the room; it has laid its table
 --     going_end           at the end of the plan the tables that stand are those of the whole plan
 --     last_stands, last_table_lem     the last of them: it is 3 wide, ends where the cells filled end, and has so many rows
 use Prim.Native.Nat.{ℕ, ◌+◌, ◌*◌, ◌-◌, ◌≤◌, ◌<◌}
@@ -152,10 +152,10 @@ module _ (w : World) (room lent : ℕ) (plan : List ℕ) (all : List Placed) (wo
     by_room : Table → Bool → Work Filled
     by_room u b = within b at (running w room t.after (ts ++ (u ∷ [])) (filled + length u * t.width))
 
-    pub turn-full :
+    pub turn_full :
         (u : Table) → made ≡ gives u → room < filled + length u * t.width → running w room all [] 0 ≡ full at
     unfolding within by_room
-    turn-full u e h = turn_gives u e ∙ ap (by_room u) (lt-leb (filled + length u * t.width) room h)
+    turn_full u e h = turn_gives u e ∙ ap (by_room u) (lt-leb (filled + length u * t.width) room h)
 
     abbrev more : ℕ → List ℕ
     more k = entered dir n (record { at = filled; rows = k; width = t.width })

@@ -2,9 +2,9 @@
 --     never_unread          a sound plan is never unread before its end
 --     read_sound            the operator that was read is sound for the tables that stand
 --     under_512             .. and there is an entry for its table
---     turned-walks          the refusal of an operator is that of the whole run
+--     turned_walks          the refusal of an operator is that of the whole run
 --     turned_on             an operator that laid its table: the run goes on behind it
---     end-walks             at the end of the plan all tables stand
+--     end_walks             at the end of the plan all tables stand
 use Prim.Native.Nat.{ℕ, ◌+◌, ◌*◌, ◌-◌, ◌≤◌, ◌<◌}
 use mathlib.Core.Path.{◌≡◌, refl, sym, ap, ◌∙◌, subst}
 use mathlib.Core.List.{List, [], ◌∷◌}
@@ -41,15 +41,15 @@ use Rattle.running.specs.declared.Walked.TheVariants as Walked
 use Rattle.running.specs.Leaving.{Walks, refused_at}
 use Rattle.laying.specs.Goes.{Goes}
 use Rattle.laying.specs.contracts.Turned.{the_type}
-use Rattle.running.proofs.Going.{Going, as_many, turn_fails, turn-full, turn_more, going_end, last_stands}
+use Rattle.running.proofs.Going.{Going, as_many, turn_fails, turn_full, turn_more, going_end, last_stands}
 use Rattle.running.proofs.Going.{some_table, last_table_lem}
 
 -- the lent marks stay as many
-pub ready-kept :
+pub ready_kept :
     (doc : List ℕ) (n : ℕ) (from to from₀ to₀ : List Bool) → Ready doc n from₀ to₀ → length from ≡ length from₀ →
     length to ≡ length to₀ →
     Ready doc n from to
-ready-kept doc n from to from₀ to₀ r e d =
+ready_kept doc n from to from₀ to₀ r e d =
     record { known = r.known; sources = omega (arith, r.sources); targets = omega (arith, r.targets) }
 
 module _ (w : World) (room lent : ℕ) (plan : List ℕ) (all : List Placed) (work : List ℤ) (dir : List ℕ)
@@ -83,16 +83,16 @@ module _ (w : World) (room lent : ℕ) (plan : List ℕ) (all : List Placed) (wo
     top = record { tables = n; cells = filled }
 
     module _ (after : List ℤ) (next : List ℕ) where
-      pub turned-walks :
+      pub turned_walks :
           (t : Turned) (q : Walked) → OneOf (1 ∷ 2 ∷ []) (tag_of the_type t) → q ≡ refused_at t at →
           Goes room top wide made work after dir next t → Walks (running w room all [] 0) after q
       unfolding Goes Owes Walks
-      turned-walks (On more) q h i o = absurd (miss (1 ∷ 2 ∷ []) 0 tt h)
-      turned-walks Full q h i o =
+      turned_walks (On more) q h i o = absurd (miss (1 ∷ 2 ∷ []) 0 tt h)
+      turned_walks Full q h i o =
           let past = subst (λ (v : ℕ). room < filled + length o.table * v) fits.1 o.past in
-          let stopped = turn-full w room lent plan all work dir at n filled g d the_turn o.table o.made_is past in
+          let stopped = turn_full w room lent plan all work dir at n filled g d the_turn o.table o.made_is past in
           subst (Walks (running w room all [] 0) after) (sym i) stopped
-      turned-walks Fails q h i o =
+      turned_walks Fails q h i o =
           subst (Walks (running w room all [] 0) after) (sym i)
           (turn_fails w room lent plan all work dir at n filled g d the_turn o.made_is)
 
@@ -108,15 +108,15 @@ module _ (w : World) (room lent : ℕ) (plan : List ℕ) (all : List Placed) (wo
           entry room filled the_turn.width k made work after dir n inside laid under_512 the_turn.wide.low
           the_turn.wide.high
           g.listed in
-          going-is (d2 ∙ ap (λ (v : ℕ). entered dir n (record { at = filled; rows = k; width = v })) wide_is) n2
+          going_is (d2 ∙ ap (λ (v : ℕ). entered dir n (record { at = filled; rows = k; width = v })) wide_is) n2
           (f2 ∙ ap (λ (v : ℕ). filled + k * v) wide_is)
           (turn_more w room lent plan all work dir at n filled g d the_turn k after e)
         where
-          going-is :
+          going_is :
               {dir₁ dir₂ : List ℕ} {n₁ n₂ f₁ f₂ : ℕ} → dir₁ ≡ dir₂ → n₁ ≡ n₂ → f₁ ≡ f₂ →
               Going w room lent plan all after dir₂ d.next n₂ f₂ →
               Going w room lent plan all after dir₁ d.next n₁ f₁
-          going-is {dir₂ = dir₂} {n₁ = n₁} {n₂ = n₂} {f₁ = f₁} {f₂ = f₂} x y z h =
+          going_is {dir₂ = dir₂} {n₁ = n₁} {n₂ = n₂} {f₁ = f₁} {f₂ = f₂} x y z h =
               subst (λ (l : List ℕ). Going w room lent plan all after l d.next n₁ f₁) (sym x)
               (subst (λ (a : ℕ). Going w room lent plan all after dir₂ d.next a f₁) (sym y)
               (subst (λ (b : ℕ). Going w room lent plan all after dir₂ d.next n₂ b) (sym z) h))
@@ -133,11 +133,11 @@ module _ (w : World) (room lent : ℕ) (plan : List ℕ) (all : List Placed) (wo
   pub some : 1 ≤ n
   some = some_table w room lent plan all work dir at n filled g end e
 
-  pub end-walks :
+  pub end_walks :
       (m : ℕ) → n ≡ m + 1 → room ≤ lent →
       Walks (running w room all [] 0) work (Walked.Tables (stand_at dir m).at (stand_at dir m).rows filled)
   unfolding Walks EndToEnd
-  end-walks m k inside =
+  end_walks m k inside =
       let stops = last_stands w room lent plan all work dir at n filled g end e m k in
       let fits = g.fits in (
         record { tables = tables_in work dir n; filled = filled },

@@ -122,7 +122,7 @@ module _ (xs : List ℤ) (u : Stand) (d : ℕ) (x : ℤ) where
       record {
         ordered = omega arith;
         within = omega arith;
-        joins-alike =
+        joins_alike =
             ap₂ (λ (b m : ℕ). filter (λ (q : Row). same x (cell q d)) (rows_at xs b m u.width))
             (first u.at u.width) (all_of u.rows);
       }
@@ -141,7 +141,7 @@ module _ (xs : List ℤ) (u : Stand) (d : ℕ) (x : ℤ) where
       record {
         ordered = h;
         within = k;
-        joins-alike = between_alike xs u.at u.rows u.width d x g lo hi h k f b;
+        joins_alike = between_alike xs u.at u.rows u.width d x g lo hi h k f b;
       }
 
 -- .. for an equal cell

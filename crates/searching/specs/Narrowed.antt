@@ -25,6 +25,6 @@ Back equal x zs n = (i : ℕ) → n ≤ i → i < length zs → passed equal x (
 pub record Narrows (xs : List ℤ) (u : Stand) (d : ℕ) (x : ℤ) (p : Part) : Type 0 where
   pub ordered : p.start ≤ p.end
   pub within : p.end ≤ u.rows
-  pub joins-alike :
+  pub joins_alike :
       filter (λ (q : Row). same x (cell q d)) (table_at xs u)
       ≡ filter (λ (q : Row). same x (cell q d)) (rows_at xs (u.at + p.start * u.width) (p.end - p.start) u.width)

@@ -48,11 +48,11 @@ module _ (t : List ℕ) (b : ℕ) (seen : first t ≡ b) where
   pub parent_other : ((Unit {0} × (b ≡ 97 → ⊥)) × (b ≡ 114 → ⊥)) → parent_rest t ≡ stuck t
   parent_other h = rw (unseen 97 h.0.1, unseen 114 h.1)
 
-  pub axis-other :
+  pub axis_other :
       ((((((Unit {0} × (b ≡ 99 → ⊥)) × (b ≡ 100 → ⊥)) × (b ≡ 115 → ⊥)) × (b ≡ 112 → ⊥)) × (b ≡ 97 → ⊥))
       × (b ≡ 102 → ⊥))
       → read_axis t ≡ stuck t
-  axis-other h =
+  axis_other h =
       rw (
         unseen 99 h.0.0.0.0.0.1,
         unseen 100 h.0.0.0.0.1,

@@ -1,14 +1,14 @@
 -- What a record leaves on the stack, case by case.
 --     row_append                two parts of the stack, one behind the other
---     leaves-laid               items laid at the top
+--     leaves_laid               items laid at the top
 --     leaves_full, leaves_failed      a refusal, with nothing changed
---     put-at                    an item put at the top
---     leaves-added, leaves-crowded    items added, where the room suffices or not
---     leaves-as                 the same outcome and answer
---     leaves_fails, leaves-gives      an attempt of the record at work
---     leaves-raised             the same where at least k stood
---     leaves-items, leaves-pair       what is done with an operand's items, or with those of two
---     leaves-stopped, pair-stopped    an operand that is refused is handed on
+--     put_at                    an item put at the top
+--     leaves_added, leaves_crowded    items added, where the room suffices or not
+--     leaves_as                 the same outcome and answer
+--     leaves_fails, leaves_gives      an attempt of the record at work
+--     leaves_raised             the same where at least k stood
+--     leaves_items, leaves_pair       what is done with an operand's items, or with those of two
+--     leaves_stopped, pair_stopped    an operand that is refused is handed on
 --     stood_joined              both operands' items as those of one
 use Prim.Native.Nat.{ℕ, ◌+◌, ◌-◌, ◌≤◌, ◌<◌}
 use mathlib.Core.Path.{◌≡◌, refl, sym, ap, ◌∙◌, subst}
@@ -51,12 +51,12 @@ module _ (top room : ℕ) (E : ℕ → Type 0) (before : List ℤ) where
   leaves_failed p = record { kept = refl; fit = tt; stands = refl; ends = λ e h. tt }
 
   module _ (after : List ℤ) where
-    pub leaves-laid :
+    pub leaves_laid :
         (l k n : ℕ) (vs : List ℤ) → after ≡ laid before top vs → top + length vs ≤ length before → length vs ≡ l →
         l ≤ k → top + k ≤ room → ((e : ℕ) → E e → n ≡ e) →
         Leaves top room (stand vs k) E before after (Stood.Items l k n)
     unfolding stood
-    leaves-laid l k n vs e h s f g t =
+    leaves_laid l k n vs e h s f g t =
         record {
           kept = ap (take top) e ∙ take_laid before top vs top (le_refl top) (omega arith);
           fit = (f, g);
@@ -68,11 +68,11 @@ module _ (top room : ℕ) (E : ℕ → Type 0) (before : List ℤ) where
           ends = t;
         }
 
-    pub leaves-raised :
+    pub leaves_raised :
         (c : ℕ) (o : Work Standing) (r : Stood) → top + c ≤ room → Leaves top room o E before after r →
         Leaves top room (raised c o) E before after (raising c r)
     unfolding raising stood raised stand work
-    leaves-raised c o r h v =
+    leaves_raised c o r h v =
         record {
           kept = v.kept;
           fit = fits r v.fit;
@@ -95,10 +95,10 @@ module _ (top room : ℕ) (E : ℕ → Type 0) (before : List ℤ) where
         ending (Stood.Full p) e t = tt
         ending (Stood.Failed p) e t = tt
 
-    pub leaves-as :
+    pub leaves_as :
         (o o' : Work Standing) (r r' : Stood) → o ≡ o' → r ≡ r' → Leaves top room o E before after r →
         Leaves top room o' E before after r'
-    leaves-as o o' r r' e d h =
+    leaves_as o o' r r' e d h =
         subst (λ (r : Stood). Leaves top room o' E before after r) d
         (subst (λ (o : Work Standing). Leaves top room o E before after r) e h)
 
@@ -109,80 +109,80 @@ module _ (top room : ℕ) (E : ℕ → Type 0) (before : List ℤ) where
     leaves_fails e = rw e (leaves_failed at)
 
     -- .. of which something is left above the top
-    pub leaves-fails-kept :
+    pub leaves_fails_kept :
         (after : List ℤ) → take top after ≡ take top before → a ≡ fails →
         Leaves top room (trying at a f) E before after (Stood.Failed at)
     unfolding trying stood
-    leaves-fails-kept after k e = rw e (record { kept = k; fit = tt; stands = refl; ends = λ e h. tt })
+    leaves_fails_kept after k e = rw e (record { kept = k; fit = tt; stands = refl; ends = λ e h. tt })
 
-    pub leaves-gives :
+    pub leaves_gives :
         (after : List ℤ) (r : Stood) (x : A) → a ≡ gives x → Leaves top room (f x) E before after r →
         Leaves top room (trying at a f) E before after r
     unfolding trying
-    leaves-gives after r x e h = rw e h
+    leaves_gives after r x e h = rw e h
 
 -- Items added where `below` stand already
 
 module _ (top room at below : ℕ) (E : ℕ → Type 0) (before : List ℤ) (xs : List ℤ) (g : Lent top room before) where
-  pub leaves-crowded :
+  pub leaves_crowded :
       room - top < below + length xs → Leaves top room (adding (room - top) at below xs) E before before (Stood.Full at)
   unfolding adding within
-  leaves-crowded h = rw (lt-leb (below + length xs) (room - top) h) (leaves_full top room E before at)
+  leaves_crowded h = rw (lt-leb (below + length xs) (room - top) h) (leaves_full top room E before at)
 
-  pub leaves-added :
+  pub leaves_added :
       (after : List ℤ) (l k n : ℕ) → below + length xs ≤ room - top → after ≡ laid before top xs → length xs ≡ l →
       below + length xs ≡ k → ((e : ℕ) → E e → n ≡ e) →
       Leaves top room (adding (room - top) at below xs) E before after (Stood.Items l k n)
   unfolding adding within
-  leaves-added after l k n h e s c t =
+  leaves_added after l k n h e s c t =
       rw (le-leb (below + length xs) (room - top) h, c)
-      (leaves-laid top room E before after l k n xs e (omega (arith, g.low, g.lent)) s (omega arith)
+      (leaves_laid top room E before after l k n xs e (omega (arith, g.low, g.lent)) s (omega arith)
       (omega (arith, g.low)) t)
 
 pub adding_as : (room at below : ℕ) (x y : ℤ) → x ≡ y → adding room at below (x ∷ []) ≡ adding room at below (y ∷ [])
 adding_as room at below x y e = ap (λ (z : ℤ). adding room at below (z ∷ [])) e
 
-pub put-at :
+pub put_at :
     (cells : List ℤ) (top : ℕ) (x y : ℤ) → x ≡ y → top < length cells → set cells top x ≡ laid cells top (y ∷ [])
-put-at cells top x y e h = ap (set cells top) e ∙ set_laid cells top y h
+put_at cells top x y e h = ap (set cells top) e ∙ set_laid cells top y h
 
 -- What a record does with the items of its operands, or hands on where one is refused
 
 module _ (top room : ℕ) (before after : List ℤ) (r : Stood) where
-  pub leaves-items :
+  pub leaves_items :
       (f : Standing → Work Standing) (a : Stood) (l k n : ℕ) → a ≡ Stood.Items l k n →
       Leaves top room (f (record { items = row before top l; count = k })) (At n) before after r →
       Leaves top room (work (stood before top a) f) (Ends a) before after r
   unfolding stood stand work
-  leaves-items f a l k n e h =
+  leaves_items f a l k n e h =
       subst (λ (a : Stood). Leaves top room (work (stood before top a) f) (Ends a) before after r) (sym e) h
 
-  pub leaves-pair :
+  pub leaves_pair :
       (f : Paired → Work Standing) (p : Pair) (l m k n : ℕ) → p ≡ Pair.Items l m k n →
       Leaves top room (f (record { first = row before top l; second = row before (top + l) m; count = k })) (At n)
       before after r →
       Leaves top room (work (paired before top p) f) (EndsPair p) before after r
   unfolding paired work
-  leaves-pair f p l m k n e h =
+  leaves_pair f p l m k n e h =
       subst (λ (p : Pair). Leaves top room (work (paired before top p) f) (EndsPair p) before after r) (sym e) h
 
 module _ (top room : ℕ) (cells : List ℤ) (f : Standing → Work Standing) where
-  pub leaves-stopped :
+  pub leaves_stopped :
       (a : Stood) → OneOf (1 ∷ 2 ∷ []) (tag_of the_type a) →
       Leaves top room (work (stood cells top a) f) (Ends a) cells cells a
   unfolding stood work
-  leaves-stopped (Stood.Items l k n) h = absurd (miss (1 ∷ 2 ∷ []) 0 tt h)
-  leaves-stopped (Stood.Full p) h = leaves_full top room (Ends (Stood.Full p)) cells p
-  leaves-stopped (Stood.Failed p) h = leaves_failed top room (Ends (Stood.Failed p)) cells p
+  leaves_stopped (Stood.Items l k n) h = absurd (miss (1 ∷ 2 ∷ []) 0 tt h)
+  leaves_stopped (Stood.Full p) h = leaves_full top room (Ends (Stood.Full p)) cells p
+  leaves_stopped (Stood.Failed p) h = leaves_failed top room (Ends (Stood.Failed p)) cells p
 
 module _ (top room : ℕ) (cells : List ℤ) (f : Paired → Work Standing) where
-  pub pair-stopped :
+  pub pair_stopped :
       (p : Pair) → OneOf (1 ∷ 2 ∷ []) (tag_of pair-type p) →
       Leaves top room (work (paired cells top p) f) (EndsPair p) cells cells (joining p)
   unfolding paired joining work
-  pair-stopped (Pair.Items l m k n) h = absurd (miss (1 ∷ 2 ∷ []) 0 tt h)
-  pair-stopped (Pair.Full p) h = leaves_full top room (EndsPair (Pair.Full p)) cells p
-  pair-stopped (Pair.Failed p) h = leaves_failed top room (EndsPair (Pair.Failed p)) cells p
+  pair_stopped (Pair.Items l m k n) h = absurd (miss (1 ∷ 2 ∷ []) 0 tt h)
+  pair_stopped (Pair.Full p) h = leaves_full top room (EndsPair (Pair.Full p)) cells p
+  pair_stopped (Pair.Failed p) h = leaves_failed top room (EndsPair (Pair.Failed p)) cells p
 
 pub fit_sums : (top room : ℕ) (p : Pair) → FitPair top room p → Sums p
 fit_sums top room (Pair.Items l m k n) f = f.0

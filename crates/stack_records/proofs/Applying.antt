@@ -20,7 +20,7 @@ use Rattle.stack.specs.declared.Stood.TheVariants as Stood
 use Rattle.stack.specs.declared.Pair.TheVariants as Pair
 use Rattle.stack.specs.Stack.{paired, At, Leaves}
 use Rattle.stack_records.specs.Arms.{applied}
-use Rattle.stack.proofs.Leaving.{leaves-laid, leaves_fails, leaves-gives}
+use Rattle.stack.proofs.Leaving.{leaves_laid, leaves_fails, leaves_gives}
 
 module _ (w : World) (f : Function) where
   apply_many : (xs ys : List ℤ) → 1 < length xs → apply w f xs ys ≡ fails
@@ -51,15 +51,15 @@ module _ (w : World) (f : Function) where
   apply_nothing (x ∷ []) [] h e = refl
   apply_nothing (x ∷ u ∷ xs) [] h e = absurd (omega arith)
 
-  apply-both :
+  apply_both :
       (xs ys : List ℤ) → length xs ≡ 1 → length ys ≡ 1 →
       apply w f xs ys ≡ attempt (w.arith f (get_or xs 0 (pos 0)) (get_or ys 0 (pos 0))) (λ z. gives (z ∷ []))
   unfolding apply
-  apply-both [] ys e d = absurd (omega arith)
-  apply-both (x ∷ u ∷ xs) ys e d = absurd (omega arith)
-  apply-both (x ∷ []) [] e d = absurd (omega arith)
-  apply-both (x ∷ []) (y ∷ z ∷ ys) e d = absurd (omega arith)
-  apply-both (x ∷ []) (y ∷ []) e d = refl
+  apply_both [] ys e d = absurd (omega arith)
+  apply_both (x ∷ u ∷ xs) ys e d = absurd (omega arith)
+  apply_both (x ∷ []) [] e d = absurd (omega arith)
+  apply_both (x ∷ []) (y ∷ z ∷ ys) e d = absurd (omega arith)
+  apply_both (x ∷ []) (y ∷ []) e d = refl
 
 -- what the record leaves, where its sides are l items and then m, counted k
 abbrev Sides : World → Function → ℕ → ℕ → ℕ → ℕ → ℕ → ℕ → ℕ → List ℤ → List ℤ → Stood → Type 0
@@ -83,8 +83,8 @@ module _
         Sides w f at l m k n top room before before (Stood.Items 0 k n)
     unfolding applied paired work
     empty e =
-        leaves-gives top room (At n) before at _ (λ xs. stand xs k) before (Stood.Items 0 k n) [] e
-        (leaves-laid top room (At n) before before 0 k n [] (sym (laid_nothing before top)) (omega arith) refl
+        leaves_gives top room (At n) before at _ (λ xs. stand xs k) before (Stood.Items 0 k n) [] e
+        (leaves_laid top room (At n) before before 0 k n [] (sym (laid_nothing before top)) (omega arith) refl
         (omega arith) t (λ e d. d))
 
     fail :
@@ -110,7 +110,7 @@ module _
         (s : a ≡ w.arith f (get_or before top (pos 0)) (get_or before (top + 1) (pos 0))) where
       both : apply w f (row before top l) (row before (top + l) m) ≡ attempt a (λ z. gives (z ∷ []))
       both =
-          apply-both w f _ _ (long ∙ d) (wide ∙ e)
+          apply_both w f _ _ (long ∙ d) (wide ∙ e)
           ∙ ap (λ (x : Attempt ℤ). attempt x (λ z. gives (z ∷ [])))
           (ap₂ (w.arith f)
           (get_d_row before top l 0 (pos 0) (omega arith) ∙ ap (λ (i : ℕ). get_or before i (pos 0)) (add-zero top))
@@ -122,11 +122,11 @@ module _
       unfolding attempt
       sides_fail z = fail (both ∙ ap (λ (x : Attempt ℤ). attempt x (λ y. gives (y ∷ []))) z)
 
-      pub sides-both :
+      pub sides_both :
           (after : List ℤ) (z : ℤ) → a ≡ gives z → after ≡ laid before top (z ∷ []) →
           Sides w f at l m k n top room before after (Stood.Items 1 k n)
       unfolding applied paired work attempt
-      sides-both after z q p =
-          leaves-gives top room (At n) before at _ (λ xs. stand xs k) after (Stood.Items 1 k n) (z ∷ [])
+      sides_both after z q p =
+          leaves_gives top room (At n) before at _ (λ xs. stand xs k) after (Stood.Items 1 k n) (z ∷ [])
           (both ∙ ap (λ (x : Attempt ℤ). attempt x (λ y. gives (y ∷ []))) q)
-          (leaves-laid top room (At n) before after 1 k n (z ∷ []) p (omega arith) refl (omega arith) t (λ e d. d))
+          (leaves_laid top room (At n) before after 1 k n (z ∷ []) p (omega arith) refl (omega arith) t (λ e d. d))

@@ -1,7 +1,7 @@
 -- A step (document 01, 'Query records', QX): from the marks of its items to the marks of the nodes that it reaches, and
 -- what then stands on the stack.
---     reaches_all, reaches-not     what `reach` answers
---     leaves-reached, leaves-short, leaves_strange     the nodes in place of the items; too many of them; an item that
+--     reaches_all, reaches_not     what `reach` answers
+--     leaves_reached, leaves_short, leaves_strange     the nodes in place of the items; too many of them; an item that
 --                                                      is no node
 use Prim.Native.Nat.{ℕ, ◌+◌, ◌-◌, ◌≤◌, ◌<◌, max}
 use mathlib.Core.Path.{◌≡◌, refl, sym, ap, ◌∙◌, subst}
@@ -25,21 +25,21 @@ use Rattle.nodesets.specs.declared.Marked.TheVariants.{AllNodes, NotANode}
 use Rattle.step_parts.specs.Steps.{Step}
 use Rattle.nodesets.specs.Nodes.{ranks}
 use Rattle.nodesets.specs.Nodes.{FromAll}
-use Rattle.axes.proofs.Whole.{step_gives, step-fails}
+use Rattle.axes.proofs.Whole.{step_gives, step_fails}
 use Rattle.stack.specs.declared.Stood.{Stood}
 use Rattle.stack.specs.declared.Stood.TheVariants as Stood
 use Rattle.stack.specs.Stack.{stood, Fit, Ends, At, Lent, Leaves, raising}
 use Rattle.stack.specs.Moves.{raised}
 use Rattle.stack_records.specs.Arms.{stepped, Reaches}
 use Rattle.lent.proofs.Moves.{part_row}
-use Rattle.stack.proofs.Leaving.{leaves-items, leaves_fails, leaves-gives, leaves-raised, leaves-crowded}
-use Rattle.stack.proofs.Leaving.{leaves-added, leaves-as}
+use Rattle.stack.proofs.Leaving.{leaves_items, leaves_fails, leaves_gives, leaves_raised, leaves_crowded}
+use Rattle.stack.proofs.Leaving.{leaves_added, leaves_as}
 
 module _ (doc : List ℕ) (n : ℕ) (axis : Axis) (test : Test) (xs : List ℤ) (from : List Bool) (m : Marked) where
-  pub reaches-not :
+  pub reaches_not :
       FromAll (catalogue_of doc n) xs m from → m ≡ NotANode → World.step (catalogue_of doc n) axis test xs ≡ fails
-  reaches-not f e =
-      step-fails (catalogue_of doc n) axis test xs from
+  reaches_not f e =
+      step_fails (catalogue_of doc n) axis test xs from
       (subst (λ (m : Marked). FromAll (catalogue_of doc n) xs m from) e f)
 
   pub reaches_all :
@@ -70,7 +70,7 @@ module _
     pub leaves_strange : m ≡ NotANode → StepsTo before (Stood.Failed at)
     unfolding stepped world_of
     leaves_strange d =
-        leaves-items top room before before (Stood.Failed at) _ a l k n e
+        leaves_items top room before before (Stood.Failed at) _ a l k n e
         (leaves_fails top room (At n) before at _ _ (subst (Reaches doc rows axis test (row before top l) ms) d s))
 
     -- the nodes that are reached
@@ -87,27 +87,27 @@ module _
         StepsTo after r
     unfolding stepped world_of nodes
     reached after r d h =
-        leaves-items top room before after r _ a l k n e
-        (leaves-gives top room (At n) before at _ _ after r _
+        leaves_items top room before after r _ a l k n e
+        (leaves_gives top room (At n) before at _ _ after r _
         (subst (Reaches doc rows axis test (row before top l) ms) d s) h)
 
-    pub leaves-short :
+    pub leaves_short :
         (c : ℕ) → m ≡ AllNodes → c ≡ length (ranks rows ms) → room - (top + l) < c → StepsTo before (Stood.Full at)
     unfolding raising
-    leaves-short c d q h =
+    leaves_short c d q h =
         reached before (Stood.Full at) d
-        (leaves-raised top room (At n) before before k _ (Stood.Full at) fit.1
-        (leaves-crowded top room at _ (At n) before nodes g (omega (arith, long, many, fit.0, fit.1))))
+        (leaves_raised top room (At n) before before k _ (Stood.Full at) fit.1
+        (leaves_crowded top room at _ (At n) before nodes g (omega (arith, long, many, fit.0, fit.1))))
 
-    pub leaves-reached :
+    pub leaves_reached :
         (after : List ℤ) (c o : ℕ) → m ≡ AllNodes → c ≡ length (ranks rows ms) → c ≤ room - (top + l) →
         after ≡ laid before top (map node_cell (ranks rows ms)) → o ≡ max k (l + c) → StepsTo after (Stood.Items c o n)
     unfolding raising nodes
-    leaves-reached after c o d q h p t =
+    leaves_reached after c o d q h p t =
         reached after (Stood.Items c o n) d
-        (leaves-as top room (At n) before after _ _ (Stood.Items c (max k (l + c)) n) (Stood.Items c o n) refl
+        (leaves_as top room (At n) before after _ _ (Stood.Items c (max k (l + c)) n) (Stood.Items c o n) refl
         (ap (λ (x : ℕ). Stood.Items c x n) (sym t))
-        (leaves-raised top room (At n) before after k _ (Stood.Items c (l + c) n) fit.1
-        (leaves-added top room at _ (At n) before nodes g after c (l + c) n (omega (arith, long, many, fit.0, fit.1))
+        (leaves_raised top room (At n) before after k _ (Stood.Items c (l + c) n) fit.1
+        (leaves_added top room at _ (At n) before nodes g after c (l + c) n (omega (arith, long, many, fit.0, fit.1))
         p
         (many ∙ sym q) (omega (arith, long, many)) (λ e h. h))))

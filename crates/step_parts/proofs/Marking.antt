@@ -1,8 +1,8 @@
 -- Laws of mark sets that grow by one flag, upwards or downwards.
 --     marks_none     no flag is decided yet
 --     marks_up       one flag more, at the upper end
---     marks-down     one flag more, at the lower end
---     part_none, part_up, part-down     the same for a part of a step, the flag being that of the axis and of the test
+--     marks_down     one flag more, at the lower end
+--     part_none, part_up, part_down     the same for a part of a step, the flag being that of the axis and of the test
 use Prim.Native.Nat.{ℕ, ◌+◌, ◌≤◌, ◌<◌}
 use mathlib.Core.Path.{◌≡◌, refl, ap, ◌∙◌}
 use mathlib.Core.List.{List}
@@ -51,9 +51,9 @@ module _ (R : ℕ → ℕ → Bool) (T : ℕ → Bool) (xs : List ℕ) (old : Li
         by_place u h j (yes k) = written u k
         by_place u h j (no k) = other u k ∙ m.inside u h (omega arith)
 
-    pub marks-down :
+    pub marks_down :
         (i hi : ℕ) → i ≡ v + 1 → v < hi → Marks i hi R T xs old new → Marks v hi R T xs old (set new v b)
-    marks-down i hi s l m =
+    marks_down i hi s l m =
         record {
           inside = λ u h j. by_place u h j (ℕ_discrete u v);
           under = λ u h. other u (omega arith) ∙ m.under u (omega arith);
@@ -82,9 +82,9 @@ module _ (doc : List ℕ) (n : ℕ) (axis : Axis) (test : Test) (from old : List
         marks_up (on_axis (catalogue_of doc n) axis) (passes (catalogue_of doc n) test) (ranks n from) old new v b
         (omega (arith, m.long)) kept 0 (omega arith) m
 
-    pub part-down :
+    pub part_down :
         (i : ℕ) → i ≡ v + 1 → v < n → AxisPart i n doc n axis test from old new
         → AxisPart v n doc n axis test from old (set new v b)
-    part-down i s l m =
-        marks-down (on_axis (catalogue_of doc n) axis) (passes (catalogue_of doc n) test) (ranks n from) old new v b
+    part_down i s l m =
+        marks_down (on_axis (catalogue_of doc n) axis) (passes (catalogue_of doc n) test) (ranks n from) old new v b
         (omega (arith, m.long)) kept i n s l m

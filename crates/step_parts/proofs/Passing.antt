@@ -1,6 +1,6 @@
 -- A row's test, read from its bytes.
 --     signed_same     a signed number is a natural one where its bits are those of that number, and it is not negative
---     named-is        the test of a name: the kind, then the four bytes of prop
+--     named_is        the test of a name: the kind, then the four bytes of prop
 use Prim.Native.Nat.{ℕ, ◌+◌, ◌*◌, ◌-◌, ◌≤◌, ◌<◌}
 use mathlib.Core.Path.{◌≡◌, refl, sym, ap}
 use mathlib.Core.List.{List}
@@ -29,29 +29,29 @@ module _ (doc : List ℕ) (n v : ℕ) where
   unfolding passes
   any_is_passed e = rw e
 
-  pub element-is :
+  pub element_is :
       {test : Test} {k : ℕ} → test ≡ Element → k ≡ kind_at doc v → eqb k 1 ≡ passes (catalogue_of doc n) test v
   unfolding passes catalogue_of kind_at
-  element-is e d = rw (e, d)
+  element_is e d = rw (e, d)
 
-  pub text-is :
+  pub text_is :
       {test : Test} {k : ℕ} → test ≡ Text → k ≡ kind_at doc v → eqb k 3 ≡ passes (catalogue_of doc n) test v
   unfolding passes catalogue_of kind_at
-  text-is e d = rw (e, d)
+  text_is e d = rw (e, d)
 
   module _ (name : ℕ) {k : ℕ} (d : k ≡ kind_at doc v) where
-    named-is :
+    named_is :
         {u : ℕ} → u ≡ word doc (10 * v + 6) 4
         → (eqb k 1 && (ltb u 0x8000_0000 && eqb u name)) ≡ passes (catalogue_of doc n) (Named name) v
     unfolding passes catalogue_of int4 kind_at
-    named-is e = rw (d, e) (ap (λ b. eqb (kind_at doc v) 1 && b) (sym (signed_same (word doc (10 * v + 6) 4) name)))
+    named_is e = rw (d, e) (ap (λ b. eqb (kind_at doc v) 1 && b) (sym (signed_same (word doc (10 * v + 6) 4) name)))
 
     pub named_other : ¬ (k ≡ 1) → false ≡ passes (catalogue_of doc n) (Named name) v
-    named_other h = rw (ne_eqb k 1 h) at (named-is refl)
+    named_other h = rw (ne_eqb k 1 h) at (named_is refl)
 
     module _ {u : ℕ} (e : u ≡ word doc (10 * v + 6) 4) (h : k ≡ 1) where
       pub named_below : 0x8000_0000 ≤ u → false ≡ passes (catalogue_of doc n) (Named name) v
-      named_below l = rw (eq-eqb k 1 h, le-ltb u 0x8000_0000 l) at (named-is e)
+      named_below l = rw (eq-eqb k 1 h, le-ltb u 0x8000_0000 l) at (named_is e)
 
       pub named_number : u < 0x8000_0000 → eqb u name ≡ passes (catalogue_of doc n) (Named name) v
-      named_number l = rw (eq-eqb k 1 h, lt-ltb u 0x8000_0000 l) at (named-is e)
+      named_number l = rw (eq-eqb k 1 h, lt-ltb u 0x8000_0000 l) at (named_is e)

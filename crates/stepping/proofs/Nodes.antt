@@ -3,8 +3,8 @@
 --     all_fails, all_next, all_end       a test of a whole column, row by row
 --     from_yes, from_no                  the node of a row, where the row is of the group or not
 --     Marking c whole left marks         the nodes of `whole` up to `left` are marked
---     marking-start, marking-more, marking_fails, marking-end    .. row by row
---     step-fails, step_full, step-laid   what RX owes for a group
+--     marking_start, marking_more, marking_fails, marking_end    .. row by row
+--     step_fails, step_full, step_laid   what RX owes for a group
 use Prim.Native.Nat.{ℕ, suc, ◌+◌, ◌-◌, ◌*◌, ◌≤◌, ◌<◌}
 use mathlib.Core.Path.{◌≡◌, refl, sym, ap, ap₂, ◌∙◌, subst}
 use mathlib.Core.List.{List, [], ◌∷◌, ◌++◌, map, append-nil, append_assoc}
@@ -36,7 +36,7 @@ use Rattle.tables.specs.Layout.{Wide, Owes}
 use Rattle.tables.specs.Order.{cell_at}
 use Rattle.stepping.specs.Marking.{FromIf, FromRow}
 use Rattle.tables.proofs.Reading.{length_column, get_d_column}
-use Rattle.members.proofs.Members.{group-yes, group-no, owes_failed}
+use Rattle.members.proofs.Members.{group_yes, group_no, owes_failed}
 
 pub rows_of_lem : (doc : List ℕ) (n : ℕ) → (catalogue_of doc n).rows ≡ n
 unfolding catalogue_of
@@ -75,15 +75,15 @@ pub record Marking (c : Catalogue) (whole left : List ℤ) (marks : List Bool) :
   pub from : FromAll c done AllNodes marks
   pub whole_is : whole ≡ done ++ left
 
-pub marking-start :
+pub marking_start :
     (c : Catalogue) (whole left : List ℤ) (marks : List Bool) → whole ≡ left → MarkSet c.rows [] marks →
     Marking c whole left marks
-marking-start c whole left marks e h = record { done = []; from = marked_none c marks h; whole_is = e }
+marking_start c whole left marks e h = record { done = []; from = marked_none c marks h; whole_is = e }
 
-pub marking-end :
+pub marking_end :
     (c : Catalogue) (whole left : List ℤ) (marks : List Bool) → left ≡ [] → Marking c whole left marks →
     FromAll c whole AllNodes marks
-marking-end c whole left marks e m =
+marking_end c whole left marks e m =
     subst (λ (l : List ℤ). FromAll c l AllNodes marks)
     (sym (m.whole_is ∙ ap (m.done ++◌) e ∙ append-nil m.done)) m.from
 
@@ -95,15 +95,15 @@ module _ (c : Catalogue) (whole : List ℤ) (t : Table) (x : ℤ) (i : ℕ) (old
 
   taken : same x (cell_at t 0 i) ≡ true → whole ≡ m.done ++ (cell_at t 1 i ∷ rest)
   unfolding column
-  taken e = m.whole_is ∙ ap (λ (u : Table). m.done ++ column u 1) (group-yes t 0 x i here e)
+  taken e = m.whole_is ∙ ap (λ (u : Table). m.done ++ column u 1) (group_yes t 0 x i here e)
 
   left : same x (cell_at t 0 i) ≡ false → whole ≡ m.done ++ rest
-  left e = m.whole_is ∙ ap (λ (u : Table). m.done ++ column u 1) (group-no t 0 x i here e)
+  left e = m.whole_is ∙ ap (λ (u : Table). m.done ++ column u 1) (group_no t 0 x i here e)
 
-  pub marking-more :
+  pub marking_more :
       (a : Marked) → a ≡ AllNodes → c.rows ≤ length old → FromRow c x (get_or t i []) a old new
       → Marking c whole rest new
-  marking-more a d long h =
+  marking_more a d long h =
       by_cases (same x (cell_at t 0 i))
       (λ e.
       let one : FromOne c (cell_at t 1 i) AllNodes old new =
@@ -149,12 +149,12 @@ module _ (doc : List ℕ) (n : ℕ) (axis : Axis) (test : Test) (xs : List ℤ) 
   abbrev rows_made : Attempt Table
   rows_made = attempt (World.step (catalogue_of doc n) axis test xs) (λ ys. gives (step_rows x ys))
 
-  pub step-fails :
+  pub step_fails :
       (m : Marked) (ms : List Bool) → FromAll (catalogue_of doc n) xs m ms → m ≡ NotANode →
       Owes room at 2 rows_made work work Fails
-  step-fails m ms f e =
+  step_fails m ms f e =
       owes_failed room at 2 (World.step (catalogue_of doc n) axis test xs) (λ ys. gives (step_rows x ys)) work work refl
-      (Whole.step-fails (catalogue_of doc n) axis test xs ms
+      (Whole.step_fails (catalogue_of doc n) axis test xs ms
       (subst (λ (m : Marked). FromAll (catalogue_of doc n) xs m ms) e f))
 
   module _ (m : Marked) (from old new : List Bool) (f : FromAll (catalogue_of doc n) xs m from) (e : m ≡ AllNodes)
@@ -182,11 +182,11 @@ module _ (doc : List ℕ) (n : ℕ) (axis : Axis) (test : Test) (xs : List ℤ) 
           long = refl;
         }
 
-    pub step-laid :
+    pub step_laid :
         (k : ℕ) (z : ℤ) (after : List ℤ) → k ≡ length (ranks n new) → at + 2 * k ≤ room → z ≡ x →
         after ≡ laid work at (rows_of z (ranks n new)) → Owes room at 2 rows_made work after (Rows k)
     unfolding Owes attempt rows_of nodes
-    step-laid k z after d h g l =
+    step_laid k z after d h g l =
         record {
           table = step_rows x nodes;
           made_is = ap (λ (o : Attempt (List ℤ)). attempt o (λ ys. gives (step_rows x ys))) gives_nodes;

@@ -1,7 +1,7 @@
 -- Columns cell by cell, as loops go through them.
---     column-head, column_none               the first cell of a column, and the others
+--     column_head, column_none               the first cell of a column, and the others
 --     same_cell, seen, unseen, unseen_all    a cell looked for in a column
---     rises-not, rises_next, rises_last      a column that rises, taken apart at its head
+--     rises_not, rises_next, rises_last      a column that rises, taken apart at its head
 use Prim.Native.Nat.{ℕ, zero, suc, ◌+◌, ◌-◌, ◌≤◌, ◌<◌}
 use mathlib.Core.Path.{◌≡◌, refl, sym, ap, ◌∙◌}
 use mathlib.Core.List.{List, [], ◌∷◌}
@@ -21,10 +21,10 @@ pub same_cell : (z v : ℤ) (xs : List ℤ) → z ≡ v → any (same z) xs ≡ 
 same_cell z v xs e = ap (λ (u : ℤ). any (same u) xs) e
 
 module _ (xs : List ℤ) (a n w c : ℕ) (inside : c < w) where
-  pub column-head :
+  pub column_head :
       0 < n → column (rows_at xs a n w) c ≡ get_or xs (a + c) (pos 0) ∷ column (rows_at xs (a + w) (n - 1) w) c
   unfolding column
-  column-head h =
+  column_head h =
       ap (λ (t : Table). column t c) (rows_head xs a n w h)
       ∙ ap (◌∷ column (rows_at xs (a + w) (n - 1) w) c) (cell_read xs a w c inside)
 
@@ -36,13 +36,13 @@ module _ (xs : List ℤ) (a n w c : ℕ) (inside : c < w) where
   module _ (z : ℤ) where
     pub seen : 0 < n → same z (get_or xs (a + c) (pos 0)) ≡ true → any (same z) (column (rows_at xs a n w) c) ≡ true
     unfolding any
-    seen h e = ap (any (same z)) (column-head h) ∙ ap (◌|| any (same z) (column (rows_at xs (a + w) (n - 1) w) c)) e
+    seen h e = ap (any (same z)) (column_head h) ∙ ap (◌|| any (same z) (column (rows_at xs (a + w) (n - 1) w) c)) e
 
     pub unseen :
         0 < n → same z (get_or xs (a + c) (pos 0)) ≡ false →
         any (same z) (column (rows_at xs a n w) c) ≡ any (same z) (column (rows_at xs (a + w) (n - 1) w) c)
     unfolding any
-    unseen h e = ap (any (same z)) (column-head h) ∙ ap (◌|| any (same z) (column (rows_at xs (a + w) (n - 1) w) c)) e
+    unseen h e = ap (any (same z)) (column_head h) ∙ ap (◌|| any (same z) (column (rows_at xs (a + w) (n - 1) w) c)) e
 
     pub unseen_all : n ≡ 0 → any (same z) (column (rows_at xs a n w) c) ≡ false
     unfolding any
@@ -51,25 +51,25 @@ module _ (xs : List ℤ) (a n w c : ℕ) (inside : c < w) where
 -- two neighbours
 module _ (xs : List ℤ) (a n w c : ℕ) (inside : c < w) where
   module _ (h : 1 < n) where
-    rises-split :
+    rises_split :
         rises (column (rows_at xs a n w) c)
         ≡ (before (get_or xs (a + c) (pos 0)) (get_or xs (a + w + c) (pos 0))
         && rises (column (rows_at xs (a + w) (n - 1) w) c))
     unfolding rises
-    rises-split =
-        let next = column-head xs (a + w) (n - 1) w c inside (omega arith) in
-        ap rises (column-head xs a n w c inside (omega arith) ∙ ap (get_or xs (a + c) (pos 0) ∷◌) next)
+    rises_split =
+        let next = column_head xs (a + w) (n - 1) w c inside (omega arith) in
+        ap rises (column_head xs a n w c inside (omega arith) ∙ ap (get_or xs (a + c) (pos 0) ∷◌) next)
         ∙ ap (λ (l : List ℤ). before (get_or xs (a + c) (pos 0)) (get_or xs (a + w + c) (pos 0)) && rises l) (sym next)
 
-    pub rises-not :
+    pub rises_not :
         before (get_or xs (a + c) (pos 0)) (get_or xs (a + w + c) (pos 0)) ≡ false
         → rises (column (rows_at xs a n w) c) ≡ false
-    rises-not e = rises-split ∙ ap (◌&& rises (column (rows_at xs (a + w) (n - 1) w) c)) e
+    rises_not e = rises_split ∙ ap (◌&& rises (column (rows_at xs (a + w) (n - 1) w) c)) e
 
     pub rises_next :
         before (get_or xs (a + c) (pos 0)) (get_or xs (a + w + c) (pos 0)) ≡ true →
         rises (column (rows_at xs a n w) c) ≡ rises (column (rows_at xs (a + w) (n - 1) w) c)
-    rises_next e = rises-split ∙ ap (◌&& rises (column (rows_at xs (a + w) (n - 1) w) c)) e
+    rises_next e = rises_split ∙ ap (◌&& rises (column (rows_at xs (a + w) (n - 1) w) c)) e
 
   pub rises_last : n ≤ 1 → rises (column (rows_at xs a n w) c) ≡ true
   unfolding rises
@@ -79,5 +79,5 @@ module _ (xs : List ℤ) (a n w c : ℕ) (inside : c < w) where
       go zero e h = ap rises (column_none xs a n w c inside e)
       go (suc m) e h =
           ap rises
-          (column-head xs a n w c inside (omega arith)
+          (column_head xs a n w c inside (omega arith)
           ∙ ap (get_or xs (a + c) (pos 0) ∷◌) (column_none xs (a + w) (n - 1) w c inside (omega arith)))

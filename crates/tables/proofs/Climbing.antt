@@ -1,5 +1,5 @@
 -- A column that climbs, as loops go through it, and what it says of its cells.
---     climbs-not, climbs-next, climbs_last     a column taken apart at its head
+--     climbs_not, climbs_next, climbs_last     a column taken apart at its head
 --     climbs_tail, climbs_drop   a column that climbs climbs from any row on
 --     climbs_low                 no cell of a column that climbs stands before the first
 --     climbs_at                  .. or before an earlier one
@@ -19,31 +19,31 @@ use Rattle.laws.proofs.Lists.{all_map, all_get_d}
 use Rattle.laws.proofs.Booleans.{both_true}
 use Rattle.meaning.specs.Operators.{column}
 use Rattle.tables.specs.Order.{climbs}
-use Rattle.tables.proofs.Cells.{column-head, column_none}
+use Rattle.tables.proofs.Cells.{column_head, column_none}
 
 -- two neighbours
 module _ (xs : List ℤ) (a n w c : ℕ) (inside : c < w) where
   module _ (h : 1 < n) where
-    climbs-split :
+    climbs_split :
         climbs (column (rows_at xs a n w) c)
         ≡ (not (before (get_or xs (a + w + c) (pos 0)) (get_or xs (a + c) (pos 0)))
         && climbs (column (rows_at xs (a + w) (n - 1) w) c))
     unfolding climbs
-    climbs-split =
-        let next = column-head xs (a + w) (n - 1) w c inside (omega arith) in
-        ap climbs (column-head xs a n w c inside (omega arith) ∙ ap (get_or xs (a + c) (pos 0) ∷◌) next)
+    climbs_split =
+        let next = column_head xs (a + w) (n - 1) w c inside (omega arith) in
+        ap climbs (column_head xs a n w c inside (omega arith) ∙ ap (get_or xs (a + c) (pos 0) ∷◌) next)
         ∙ ap (λ (l : List ℤ). not (before (get_or xs (a + w + c) (pos 0)) (get_or xs (a + c) (pos 0))) && climbs l)
         (sym next)
 
-    pub climbs-not :
+    pub climbs_not :
         before (get_or xs (a + w + c) (pos 0)) (get_or xs (a + c) (pos 0)) ≡ true
         → climbs (column (rows_at xs a n w) c) ≡ false
-    climbs-not e = climbs-split ∙ ap (λ (t : Bool). not t && climbs (column (rows_at xs (a + w) (n - 1) w) c)) e
+    climbs_not e = climbs_split ∙ ap (λ (t : Bool). not t && climbs (column (rows_at xs (a + w) (n - 1) w) c)) e
 
-    pub climbs-next :
+    pub climbs_next :
         before (get_or xs (a + w + c) (pos 0)) (get_or xs (a + c) (pos 0)) ≡ false →
         climbs (column (rows_at xs a n w) c) ≡ climbs (column (rows_at xs (a + w) (n - 1) w) c)
-    climbs-next e = climbs-split ∙ ap (λ (t : Bool). not t && climbs (column (rows_at xs (a + w) (n - 1) w) c)) e
+    climbs_next e = climbs_split ∙ ap (λ (t : Bool). not t && climbs (column (rows_at xs (a + w) (n - 1) w) c)) e
 
   pub climbs_last : n ≤ 1 → climbs (column (rows_at xs a n w) c) ≡ true
   unfolding climbs
@@ -53,7 +53,7 @@ module _ (xs : List ℤ) (a n w c : ℕ) (inside : c < w) where
       go zero e h = ap climbs (column_none xs a n w c inside e)
       go (suc m) e h =
           ap climbs
-          (column-head xs a n w c inside (omega arith)
+          (column_head xs a n w c inside (omega arith)
           ∙ ap (get_or xs (a + c) (pos 0) ∷◌) (column_none xs (a + w) (n - 1) w c inside (omega arith)))
 
 -- no cell stands before an earlier one

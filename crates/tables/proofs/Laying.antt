@@ -1,10 +1,10 @@
 -- Laws of `Laying`, the one invariant of every loop that lays rows behind each other.
---     laying_start, laying-more, laying_end     the loop begins, lays some rows, ends
+--     laying_start, laying_more, laying_end     the loop begins, lays some rows, ends
 --     laying_full, laying_fails                 a turn passes the room, or fails
---     laying-stopped                            either of these
---     row_more, row-stopped, rows-laid          the same of a loop over the rows of a table
+--     laying_stopped                            either of these
+--     row_more, row_stopped, rows_laid          the same of a loop over the rows of a table
 --     counted_fits                              the rows are no more than the room
---     length-laying                             the cells stay as many
+--     length_laying                             the cells stay as many
 use Prim.Native.Nat.{ℕ, ◌+◌, ◌-◌, ◌*◌, ◌≤◌, ◌<◌}
 use mathlib.Core.Path.{◌≡◌, refl, sym, ap, ◌∙◌, subst}
 use mathlib.Core.List.{List, [], ◌∷◌, ◌++◌, append_assoc, append-nil}
@@ -16,7 +16,7 @@ use types.Run.{OneOf, miss}
 use lib.ListN.{length, length-append}
 use Rattle.laws.specs.Lists.{gather}
 use Rattle.laws.specs.Rows.{row, rows_at, laid, flat}
-use Rattle.laws.proofs.Rows.{laid_nothing, laid_more, length-laid}
+use Rattle.laws.proofs.Rows.{laid_nothing, laid_more, length_laid}
 use Rattle.laws.specs.Attempt.{Attempt, fails, gives, attempt, each}
 use Rattle.meaning.specs.Operators.{Row, Table}
 use Rattle.tables.specs.declared.Laid.{Laid}
@@ -81,12 +81,12 @@ module _ {A : Type 0} (room at w : ℕ) (f : A → Attempt Table) (entry : List 
     laid_up_to l =
         omega (arith, length_flat w l.done l.wide, ap (λ (k : ℕ). k * w) l.rows_are)
 
-    pub length-laying :
+    pub length_laying :
         {left : List A} → room ≤ length entry → Laying room at w f whole entry left ys top n
         → length ys ≡ length entry
-    length-laying h l =
+    length_laying h l =
         let e = laid_up_to l in
-        ap length l.cells_are ∙ length-laid entry at (flat l.done) (omega arith)
+        ap length l.cells_are ∙ length_laid entry at (flat l.done) (omega arith)
 
     pub laying_end : Laying room at w f whole entry [] ys top n → Owes room at w whole entry ys (Rows n)
     unfolding Owes each attempt
@@ -102,11 +102,11 @@ module _ {A : Type 0} (room at w : ℕ) (f : A → Attempt Table) (entry : List 
 
     module _ (x : A) (left : List A) (zs : List ℤ) (inside : room ≤ length entry)
         (l : Laying room at w f whole entry (x ∷ left) ys top n) where
-      pub laying-more :
+      pub laying_more :
           (m : ℕ) → Owes room top w (f x) ys zs (Rows m)
           → Laying room at w f whole entry left zs (top + m * w) (n + m)
       unfolding Owes
-      laying-more m o =
+      laying_more m o =
           let e = laid_up_to l in
           let d = l.done in
           let t = o.table in
@@ -140,7 +140,7 @@ module _ {A : Type 0} (room at w : ℕ) (f : A → Attempt Table) (entry : List 
             past =
                 omega
                 (arith, mul-le-mul_right w h, add-mul (length d) (length t) w, ap (λ (k : ℕ). k * w) l.rows_are);
-            long = o.long ∙ length-laying inside l;
+            long = o.long ∙ length_laying inside l;
           }
 
       pub laying_fails : Owes room top w (f x) ys zs Fails → Owes room at w whole entry zs Fails
@@ -148,16 +148,16 @@ module _ {A : Type 0} (room at w : ℕ) (f : A → Attempt Table) (entry : List 
       laying_fails o =
           record {
             made_is = l.whole_is ∙ each_fails f l.done x left o.made_is;
-            long = o.long ∙ length-laying inside l;
+            long = o.long ∙ length_laying inside l;
           }
 
       -- a turn that lays no rows ends the loop with its answer
-      pub laying-stopped :
+      pub laying_stopped :
           (o : Laid) → OneOf (1 ∷ 2 ∷ []) (tag_of the_type o) → Settled whole → Owes room top w (f x) ys zs o →
           Owes room at w whole entry zs o
-      laying-stopped (Rows m) h s o = absurd (miss (1 ∷ 2 ∷ []) 0 tt h)
-      laying-stopped Full h s o = laying_full s o
-      laying-stopped Fails h s o = laying_fails o
+      laying_stopped (Rows m) h s o = absurd (miss (1 ∷ 2 ∷ []) 0 tt h)
+      laying_stopped Full h s o = laying_full s o
+      laying_stopped Fails h s o = laying_fails o
 
 -- a loop over the rows of a table
 module _ (room at w : ℕ) (f : Row → Attempt Table) (entry : List ℤ) (whole : Attempt Table) (ys : List ℤ)
@@ -171,21 +171,21 @@ module _ (room at w : ℕ) (f : Row → Attempt Table) (entry : List ℤ) (whole
       (zs : List ℤ) (m : ℕ) → Owes room top w (f (row entry b v)) ys zs (Rows m) →
       Laying room at w f whole entry (rows_at entry (b + v) (left - 1) v) zs (top + m * w) (n + m)
   row_more zs m o =
-      laying-more room at w f entry whole ys top n (row entry b v) (rows_at entry (b + v) (left - 1) v) zs inside
+      laying_more room at w f entry whole ys top n (row entry b v) (rows_at entry (b + v) (left - 1) v) zs inside
       first_row m o
 
-  pub row-stopped :
+  pub row_stopped :
       (zs : List ℤ) (o : Laid) → OneOf (1 ∷ 2 ∷ []) (tag_of the_type o) → Settled whole
       → Owes room top w (f (row entry b v)) ys zs o →
       Owes room at w whole entry zs o
-  row-stopped zs =
-      laying-stopped room at w f entry whole ys top n (row entry b v) (rows_at entry (b + v) (left - 1) v) zs inside
+  row_stopped zs =
+      laying_stopped room at w f entry whole ys top n (row entry b v) (rows_at entry (b + v) (left - 1) v) zs inside
       first_row
 
-pub rows-laid :
+pub rows_laid :
     (room at w : ℕ) (f : Row → Attempt Table) (entry : List ℤ) (whole : Attempt Table) (ys : List ℤ)
     (top n b left v : ℕ) →
     left ≡ 0 → Laying room at w f whole entry (rows_at entry b left v) ys top n → Owes room at w whole entry ys (Rows n)
-rows-laid room at w f entry whole ys top n b left v e l =
+rows_laid room at w f entry whole ys top n b left v e l =
     laying_end room at w f entry whole ys top n
     (subst (λ (t : Table). Laying room at w f whole entry t ys top n) (rows_none entry b left v e) l)

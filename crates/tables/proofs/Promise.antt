@@ -1,10 +1,10 @@
 -- Laws on the one promise of every operator, `Owes`.
---     owes_is, owes-wide                the promise of an equal attempt, at an equal width
---     owes_then, owes-else              one table or another, by a test
+--     owes_is, owes_wide                the promise of an equal attempt, at an equal width
+--     owes_then, owes_else              one table or another, by a test
 --     one_full, one_laid, none_laid     a task that makes one row, or none
---     attached-full, attached-laid      a row with one cell more
---     owes-cell, owes_none              rows that stand on a cell that is worked out first
---     owes-provided, owes_refused       rows that are made where a test holds
+--     attached_full, attached_laid      a row with one cell more
+--     owes_cell, owes_none              rows that stand on a cell that is worked out first
+--     owes_provided, owes_refused       rows that are made where a test holds
 --     flat_append, length_flat          the cells of a table
 use Prim.Native.Nat.{ℕ, suc, ◌+◌, ◌*◌, ◌≤◌, ◌<◌}
 use mathlib.Core.Path.{◌≡◌, refl, sym, ap, ◌∙◌, subst}
@@ -51,19 +51,19 @@ pub owes_is :
 owes_is room at w xs ys o e h = subst (λ (a : Attempt Table). Owes room at w a xs ys o) (sym e) h
 
 -- the promise at one width is that at an equal one
-pub owes-wide :
+pub owes_wide :
     (room at : ℕ) (w v : ℕ) (m : Attempt Table) (xs ys : List ℤ) (o : Laid) → w ≡ v → Owes room at w m xs ys o
     → Owes room at v m xs ys o
-owes-wide room at w v m xs ys o e h = subst (λ (n : ℕ). Owes room at n m xs ys o) e h
+owes_wide room at w v m xs ys o e h = subst (λ (n : ℕ). Owes room at n m xs ys o) e h
 
 -- one table or another, by a test
 module _ (room at w : ℕ) (t u : Table) (xs ys : List ℤ) (o : Laid) where
   pub owes_then : (b : Bool) → b ≡ true → Owes room at w (gives t) xs ys o → Owes room at w (gives (cond b t u)) xs ys o
   owes_then b e h = owes_is room at w xs ys o (ap (λ (c : Bool). gives (cond c t u)) e) h
 
-  pub owes-else :
+  pub owes_else :
       (b : Bool) → b ≡ false → Owes room at w (gives u) xs ys o → Owes room at w (gives (cond b t u)) xs ys o
-  owes-else b e h = owes_is room at w xs ys o (ap (λ (c : Bool). gives (cond c t u)) e) h
+  owes_else b e h = owes_is room at w xs ys o (ap (λ (c : Bool). gives (cond c t u)) e) h
 
 module _ (room at w : ℕ) (r : Row) (xs : List ℤ) (wide : length r ≡ w) where
   pub one_full : room < at + w → Owes room at w (gives (r ∷ [])) xs xs Full
@@ -84,25 +84,25 @@ module _ (room at w : ℕ) (r : Row) (xs : List ℤ) (wide : length r ≡ w) whe
 
 -- a row with one cell more
 module _ (room at a w : ℕ) (z : ℤ) (xs : List ℤ) (inside : a + w ≤ length xs) where
-  pub attached-full :
+  pub attached_full :
       room < at + (w + 1) → Owes room at (w + 1) (gives ((row xs a w ++ (z ∷ [])) ∷ [])) xs xs Full
-  attached-full h =
+  attached_full h =
       one_full room at (w + 1) (row xs a w ++ (z ∷ [])) xs (length_snoc (row xs a w) z w (length_row xs a w inside)) h
 
-  pub attached-laid :
+  pub attached_laid :
       (ys : List ℤ) (v : ℤ) → at + w < room → room ≤ length xs → ys ≡ laid xs at (row xs a w) → v ≡ z →
       Owes room at (w + 1) (gives ((row xs a w ++ (z ∷ [])) ∷ [])) xs (set ys (at + w) v) (Rows 1)
-  attached-laid ys v h k e i =
+  attached_laid ys v h k e i =
       one_laid room at (w + 1) (row xs a w ++ (z ∷ [])) xs (length_snoc (row xs a w) z w (length_row xs a w inside))
       (set ys (at + w) v)
       (omega arith)
       (ap (set ys (at + w)) i ∙ set_more xs ys at w (row xs a w) z e (length_row xs a w inside) (omega arith))
 
-pub attached-is :
+pub attached_is :
     (room at a w : ℕ) (z v : ℤ) (xs ys : List ℤ) (o : Laid) → v ≡ z →
     Owes room at (w + 1) (gives ((row xs a w ++ (v ∷ [])) ∷ [])) xs ys o →
     Owes room at (w + 1) (gives ((row xs a w ++ (z ∷ [])) ∷ [])) xs ys o
-attached-is room at a w z v xs ys o e h =
+attached_is room at a w z v xs ys o e h =
     subst (λ (u : ℤ). Owes room at (w + 1) (gives ((row xs a w ++ (u ∷ [])) ∷ [])) xs ys o) e h
 
 pub none_laid : (room at w : ℕ) (xs : List ℤ) → at ≤ room → Owes room at w (gives []) xs xs (Rows 0)
@@ -119,11 +119,11 @@ none_laid room at w xs h =
 
 -- rows that stand on a cell that is worked out first
 module _ (room at w : ℕ) (o : Attempt ℤ) (g : ℤ → Attempt Table) (xs : List ℤ) where
-  pub owes-cell :
+  pub owes_cell :
       (z v : ℤ) (ys : List ℤ) (l : Laid) → gives z ≡ o → v ≡ z → Owes room at w (g v) xs ys l
       → Owes room at w (attempt o g) xs ys l
   unfolding attempt
-  owes-cell z v ys l e d h = owes_is room at w xs ys l (ap (λ (a : Attempt ℤ). attempt a g) (sym e) ∙ ap g (sym d)) h
+  owes_cell z v ys l e d h = owes_is room at w xs ys l (ap (λ (a : Attempt ℤ). attempt a g) (sym e) ∙ ap g (sym d)) h
 
   pub owes_none : fails ≡ o → Owes room at w (attempt o g) xs xs Fails
   unfolding Owes attempt
@@ -131,10 +131,10 @@ module _ (room at w : ℕ) (o : Attempt ℤ) (g : ℤ → Attempt Table) (xs : L
 
 -- rows that are made where a test holds
 module _ (room at w : ℕ) (b : Bool) (m : Attempt Table) (xs : List ℤ) where
-  pub owes-provided :
+  pub owes_provided :
       (ys : List ℤ) (o : Laid) → b ≡ true → Owes room at w m xs ys o → Owes room at w (provided b m) xs ys o
   unfolding provided
-  owes-provided ys o e h = owes_is room at w xs ys o (ap (λ (t : Bool). provided t m) e) h
+  owes_provided ys o e h = owes_is room at w xs ys o (ap (λ (t : Bool). provided t m) e) h
 
   pub owes_refused : b ≡ false → Owes room at w (provided b m) xs xs Fails
   unfolding Owes provided

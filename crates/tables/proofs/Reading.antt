@@ -2,11 +2,11 @@
 --     cell_read                      a column of a row that stands in the cells is the cell there
 --     row_inside, cell_inside        a row of a table, and a cell of it, end where the table does, or before
 --     rows_few                       a table has no more rows than cells
---     cell-at-is, column_at          the cell that is read is the column of the row
+--     cell_at_is, column_at          the cell that is read is the column of the row
 --     length_table, length_column, length_rows    a table and a column have as many members as rows
 --     get_d_column                    a cell of a column
 --     column_drop, column_take       the column of a part of a table
---     table_above, table_from, table-part    the rows above row i, from row i on, and n of these
+--     table_above, table_from, table_part    the rows above row i, from row i on, and n of these
 use Prim.Native.Nat.{ℕ, zero, suc, ◌+◌, ◌-◌, ◌*◌, ◌≤◌, ◌<◌}
 use mathlib.Core.Path.{◌≡◌, refl, sym, ap, ap₂, ◌∙◌}
 use mathlib.Core.List.{List, [], ◌∷◌}
@@ -50,11 +50,11 @@ get_d_rows_at xs a (suc n) w zero h = ap (λ (b : ℕ). row xs b w) (omega (arit
 get_d_rows_at xs a (suc n) w (suc i) h =
     get_d_rows_at xs (a + w) n w i (omega arith) ∙ ap (λ (b : ℕ). row xs b w) (next_row a i w)
 
-pub cell-at-is :
+pub cell_at_is :
     (xs : List ℤ) (s : Stand) (c i : ℕ) → c < s.width → i < s.rows →
     get_or xs (s.at + i * s.width + c) (pos 0) ≡ cell_at (table_at xs s) c i
 unfolding table_at
-cell-at-is xs s c i h k =
+cell_at_is xs s c i h k =
     sym (get_d_row xs (s.at + i * s.width) s.width c (pos 0) h)
     ∙ ap (λ (r : Row). cell r c) (sym (get_d_rows_at xs s.at s.rows s.width i k))
 
@@ -122,8 +122,8 @@ module _ (xs : List ℤ) (s : Stand) (i : ℕ) where
   unfolding table_at
   table_from h = rows_from xs s.at s.rows s.width i h
 
-  pub table-part :
+  pub table_part :
       (n : ℕ) → i ≤ s.rows → n ≤ s.rows - i →
       rows_at xs (s.at + i * s.width) n s.width ≡ take n (drop i (table_at xs s))
-  table-part n h k =
+  table_part n h k =
       rows_above xs (s.at + i * s.width) (s.rows - i) s.width n k ∙ ap (take n) (table_from h)

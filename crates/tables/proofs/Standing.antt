@@ -1,8 +1,8 @@
 -- Tables in the cells: one that was laid stands there, others stand as they did.
 --     flat_rows_at, wide_rows_at     the cells of a table that stands, end to end
---     rowsAt-flat                  a table that was laid stands there
+--     rows_at_flat                  a table that was laid stands there
 --     laid_stands                  what an operator made stands where it laid it
---     laid-fits, length_stands     .. within the room, and the cells stay as many
+--     laid_fits, length_stands     .. within the room, and the cells stay as many
 --     inside_up                    a table that stands below a cell stands below a later one
 --     table_below, others_stand    a table stands as it did before rows were laid behind
 use Prim.Native.Nat.{ℕ, zero, suc, ◌+◌, ◌*◌, ◌≤◌}
@@ -15,7 +15,7 @@ use lib.ListN.{length, take, drop, length-append}
 use lib.Seq.{take-add, drop-drop, take_at, drop_at, length-take-le}
 use Rattle.laws.specs.Lists.{gather}
 use Rattle.laws.specs.Rows.{row, rows_at, laid, flat}
-use Rattle.laws.proofs.Rows.{length_row, length-laid, rowsAt-laid}
+use Rattle.laws.proofs.Rows.{length_row, length_laid, rows_at_laid}
 use Rattle.laws.specs.Attempt.{Attempt, gives}
 use Rattle.meaning.specs.Operators.{Table}
 use Rattle.tables.specs.declared.Stand.{Stand}
@@ -55,11 +55,11 @@ rows_of_lem w (r ∷ t) front back m e h =
     ap₂ ◌∷◌ here
     (ap (λ (l : List ℤ). rows_at l (m + w) (length t) w) regroup ∙ rows_of_lem w t (front ++ r) back (m + w) long h.1)
 
-pub rowsAt-flat :
+pub rows_at_flat :
     (xs : List ℤ) (at w : ℕ) (t : Table) → at ≤ length xs → Wide w t
     → rows_at (laid xs at (flat t)) at (length t) w ≡ t
 unfolding laid
-rowsAt-flat xs at w t h k = rows_of_lem w t (take at xs) (drop (at + length (flat t)) xs) at (length-take-le at xs h) k
+rows_at_flat xs at w t h k = rows_of_lem w t (take at xs) (drop (at + length (flat t)) xs) at (length-take-le at xs h) k
 
 pub inside_up : (low top : ℕ) (u : Stand) → low ≤ top → Inside low u → Inside top u
 unfolding Inside
@@ -70,12 +70,12 @@ module _ (xs ys : List ℤ) (at : ℕ) (vs : List ℤ) (over : ys ≡ laid xs at
   unfolding table_at Inside
   table_below u h =
       ap (λ (l : List ℤ). rows_at l u.at u.rows u.width) over
-      ∙ rowsAt-laid xs at vs u.at u.rows u.width h inside
+      ∙ rows_at_laid xs at vs u.at u.rows u.width h inside
 
-pub laid-fits :
+pub laid_fits :
     (room at w : ℕ) (m : Attempt Table) (xs ys : List ℤ) (n : ℕ) → Owes room at w m xs ys (Rows n) → at + n * w ≤ room
 unfolding Owes
-laid-fits room at w m xs ys n o = o.fits
+laid_fits room at w m xs ys n o = o.fits
 
 module _ (room at w : ℕ) (m : Attempt Table) (xs ys : List ℤ) (n : ℕ) (inside : room ≤ length xs)
     (o : Owes room at w m xs ys (Rows n)) where
@@ -85,7 +85,7 @@ module _ (room at w : ℕ) (m : Attempt Table) (xs ys : List ℤ) (n : ℕ) (ins
       let f = o.fits in
       o.made_is
       ∙ ap gives
-      (sym (rowsAt-flat xs at w o.table (omega arith) o.wide)
+      (sym (rows_at_flat xs at w o.table (omega arith) o.wide)
       ∙ ap₂ (λ (l : List ℤ) (k : ℕ). rows_at l at k w) (sym o.cells_are) o.rows_are)
 
   pub others_stand : (s : Stand) → Inside at s → table_at ys s ≡ table_at xs s
@@ -100,4 +100,4 @@ module _ (room at w : ℕ) (m : Attempt Table) (xs ys : List ℤ) (n : ℕ) (ins
       let f = o.fits in
       let e = length_flat w o.table o.wide in
       ap length o.cells_are
-      ∙ length-laid xs at (flat o.table) (omega (arith, ap (λ (k : ℕ). k * w) o.rows_are))
+      ∙ length_laid xs at (flat o.table) (omega (arith, ap (λ (k : ℕ). k * w) o.rows_are))

@@ -1,10 +1,10 @@
 -- What an accepted query is (document 01, 'Query records').
---     closed-read          what `read` reads is well
+--     closed_read          what `read` reads is well
 --     accepted             what `query_read` reads is accepted
 --     free_bound           a variable that is free in a closed query is bound outside, and is one of 0 to 7
---     eval-free            a query means the same where its free variables hold the same
---     evaluate-free        .. and counts the same
---     eval-closed          a closed query means the same where the variables bound outside hold the same
+--     eval_free            a query means the same where its free variables hold the same
+--     evaluate_free        .. and counts the same
+--     eval_closed          a closed query means the same where the variables bound outside hold the same
 use Prim.Native.Nat.{ℕ, zero, suc, ◌+◌, ◌-◌, ◌<◌, max}
 use mathlib.Core.Path.{◌≡◌, refl, sym, ap, subst}
 use mathlib.Core.List.{List, [], ◌∷◌, ◌++◌}
@@ -25,10 +25,10 @@ use Rattle.meaning.specs.Query.{bound, free, leaf, one, two, three, operands, re
 use Rattle.meaning.specs.Query.{record_at, sized, variable_of}
 use Rattle.meaning.specs.Meaning.{Env, bind, apply, values, eval}
 use Rattle.meaning.specs.Counted.{Standing, stand, adding, loop, evaluate}
-use Rattle.laws.proofs.Outcomes.{given_fails, given_gives, given_cond, given_provided, given-attempt}
+use Rattle.laws.proofs.Outcomes.{given_fails, given_gives, given_cond, given_provided, given_attempt}
 use Rattle.laws.proofs.Outcomes.{given_any}
 use Rattle.laws.proofs.Outcomes.{found_refuses, found_reads, found_unless, found_refusing}
-use Rattle.laws.proofs.Outcomes.{found-reading}
+use Rattle.laws.proofs.Outcomes.{found_reading}
 use Rattle.laws.proofs.Booleans.{or_left, or_right}
 use Rattle.theorems.specs.Closed.{Closed, records, depth, Well, Accepted}
 
@@ -48,43 +48,43 @@ Named Q.counting = Unit {0}
 Named Q.values = Unit {0}
 Named (Q.step x t) = Unit {0}
 
-sized-named :
+sized_named :
     (bs : List ℕ) (at n : ℕ) (r : Attempt Record) → Given Named r → Given (λ x. Named x.0) (sized bs at n r)
 unfolding sized
-sized-named bs at n r h = given_provided _ (λ _. given-attempt h (λ x h'. given_gives h'))
+sized_named bs at n r h = given_provided _ (λ _. given_attempt h (λ x h'. given_gives h'))
 
 -- a record of one byte that is a variable
-variable-named :
+variable_named :
     (bs : List ℕ) (at v : ℕ) (f : ℕ → Record) → ((u : ℕ) → u < 8 → Named (f u))
     → Given (λ x. Named x.0) (sized bs at 3 (attempt (variable_of v) (λ u. gives (f u))))
 unfolding variable_of
-variable-named bs at v f h =
-    sized-named bs at 3 _
-    (given-attempt {P = λ u. u < 8} (given_provided _ (λ t. given_gives (ltb-true v 8 t))) (λ u l. given_gives (h u l)))
+variable_named bs at v f h =
+    sized_named bs at 3 _
+    (given_attempt {P = λ u. u < 8} (given_provided _ (λ t. given_gives (ltb-true v 8 t))) (λ u l. given_gives (h u l)))
 
 -- a record that has no variable
-plain-named :
+plain_named :
     {A : Type 0} (bs : List ℕ) (at n : ℕ) (a : Attempt A) (f : A → Record) → ((x : A) → Named (f x))
     → Given (λ x. Named x.0) (sized bs at n (attempt a (λ x. gives (f x))))
-plain-named bs at n a f h = sized-named bs at n _ (given_any a (λ x. given_gives (h x)))
+plain_named bs at n a f h = sized_named bs at n _ (given_any a (λ x. given_gives (h x)))
 
 record-named : (bs : List ℕ) (at mark : ℕ) → Given (λ x. Named x.0) (record_of bs at mark)
 unfolding record_of
 record-named bs at mark =
-    given_cond (eqb mark Q.mark_ql) (sized-named bs at 6 _ (given_gives tt))
-    (given_cond (eqb mark Q.mark_qb) (plain-named bs at 3 _ _ (λ b. tt))
-    (given_cond (eqb mark Q.mark_qe) (sized-named bs at 2 _ (given_gives tt))
-    (given_cond (eqb mark Q.mark_qr) (plain-named bs at 3 _ _ (λ k. tt))
-    (given_cond (eqb mark Q.mark_qv) (variable-named bs at _ Q.variable (λ u l. l))
-    (given_cond (eqb mark Q.mark_qs) (sized-named bs at 2 _ (given_gives tt))
-    (given_cond (eqb mark Q.mark_qt) (variable-named bs at _ Q.letting (λ u l. l))
-    (given_cond (eqb mark Q.mark_qf) (variable-named bs at _ Q.for (λ u l. l))
-    (given_cond (eqb mark Q.mark_qi) (sized-named bs at 2 _ (given_gives tt))
-    (given_cond (eqb mark Q.mark_qo) (plain-named bs at 3 _ _ (λ f. tt))
-    (given_cond (eqb mark Q.mark_qc) (sized-named bs at 2 _ (given_gives tt))
-    (given_cond (eqb mark Q.mark_qd) (sized-named bs at 2 _ (given_gives tt))
+    given_cond (eqb mark Q.mark_ql) (sized_named bs at 6 _ (given_gives tt))
+    (given_cond (eqb mark Q.mark_qb) (plain_named bs at 3 _ _ (λ b. tt))
+    (given_cond (eqb mark Q.mark_qe) (sized_named bs at 2 _ (given_gives tt))
+    (given_cond (eqb mark Q.mark_qr) (plain_named bs at 3 _ _ (λ k. tt))
+    (given_cond (eqb mark Q.mark_qv) (variable_named bs at _ Q.variable (λ u l. l))
+    (given_cond (eqb mark Q.mark_qs) (sized_named bs at 2 _ (given_gives tt))
+    (given_cond (eqb mark Q.mark_qt) (variable_named bs at _ Q.letting (λ u l. l))
+    (given_cond (eqb mark Q.mark_qf) (variable_named bs at _ Q.for (λ u l. l))
+    (given_cond (eqb mark Q.mark_qi) (sized_named bs at 2 _ (given_gives tt))
+    (given_cond (eqb mark Q.mark_qo) (plain_named bs at 3 _ _ (λ f. tt))
+    (given_cond (eqb mark Q.mark_qc) (sized_named bs at 2 _ (given_gives tt))
+    (given_cond (eqb mark Q.mark_qd) (sized_named bs at 2 _ (given_gives tt))
     (given_cond (eqb mark Q.mark_qx)
-    (sized-named bs at 6 _
+    (sized_named bs at 6 _
     (given_any _ (λ x. given_any _ (λ t. given_gives tt))))
     given_fails))))))))))))
 
@@ -93,29 +93,29 @@ one_found :
     {P Q : Read → Type 0} (f : Query → Query) (a : Reading Read) → Found P a
     → ((x : Read) → P x → Q (record { tree = f x.tree; next = x.next; records = x.records })) → Found Q (one f a)
 unfolding one leaf
-one_found f a h k = found-reading h (λ x i. found_reads (k x i))
+one_found f a h k = found_reading h (λ x i. found_reads (k x i))
 
-two-found :
+two_found :
     {P Q : Read → Type 0} {R : Read → Read → Type 0} (f : Query → Query → Query) (a : Reading Read)
     (b : ℕ → ℕ → Reading Read) → Found P a → ((x : Read) → P x → Found (R x) (b x.records x.next))
     → ((x y : Read) → P x → R x y → Q (record { tree = f x.tree y.tree; next = y.next; records = y.records }))
     → Found Q (two f a b)
 unfolding two
-two-found f a b h k q = found-reading h (λ x i. one_found _ _ (k x i) (λ y j. q x y i j))
+two_found f a b h k q = found_reading h (λ x i. one_found _ _ (k x i) (λ y j. q x y i j))
 
 module _ (d : ℕ) (rd : Operand) (h : (vs : List ℕ) (n at : ℕ) → Found (Well d vs n) (rd vs n at)) where
-  leaf-well :
+  leaf_well :
       (vs : List ℕ) (n next : ℕ) (q : Query) → n < 128 → Closed q vs → records q ≡ 1 → depth q ≡ 1
       → Found (Well (suc d) vs n) (leaf q next (suc n))
   unfolding leaf
-  leaf-well vs n next q l c r e =
+  leaf_well vs n next q l c r e =
       found_reads (record { closed = c; counted = omega arith; few = omega arith; nested = omega arith })
 
-  one-well :
+  one_well :
       (vs : List ℕ) (n next : ℕ) (f : Query → Query) → ((x : Query) → Closed x vs → Closed (f x) vs)
       → ((x : Query) → records (f x) ≡ suc (records x)) → ((x : Query) → depth (f x) ≡ suc (depth x))
       → Found (Well (suc d) vs n) (one f (rd vs (suc n) next))
-  one-well vs n next f c r e =
+  one_well vs n next f c r e =
       one_found f _ (h vs (suc n) next)
       (λ x i. record {
         closed = c x.tree i.closed;
@@ -124,14 +124,14 @@ module _ (d : ℕ) (rd : Operand) (h : (vs : List ℕ) (n at : ℕ) → Found (W
         nested = omega (arith, e x.tree, i.nested);
       })
 
-  two-well :
+  two_well :
       (vs us : List ℕ) (n next : ℕ) (f : Query → Query → Query)
       → ((x y : Query) → Closed x vs → Closed y us → Closed (f x y) vs)
       → ((x y : Query) → records (f x y) ≡ suc (records x + records y))
       → ((x y : Query) → depth (f x y) ≡ suc (max (depth x) (depth y)))
       → Found (Well (suc d) vs n) (two f (rd vs (suc n) next) (rd us))
-  two-well vs us n next f c r e =
-      two-found f _ _ (h vs (suc n) next) (λ x i. h us x.records x.next)
+  two_well vs us n next f c r e =
+      two_found f _ _ (h vs (suc n) next) (λ x i. h us x.records x.next)
       (λ x y i j. record {
         closed = c x.tree y.tree i.closed j.closed;
         counted = omega (arith, r x.tree y.tree, i.counted, j.counted);
@@ -139,13 +139,13 @@ module _ (d : ℕ) (rd : Operand) (h : (vs : List ℕ) (n at : ℕ) → Found (W
         nested = omega (arith, e x.tree y.tree, i.nested, j.nested);
       })
 
-  choice-well :
+  choice_well :
       (vs : List ℕ) (at n next : ℕ) → Found (Well (suc d) vs n) (three (QI at) (rd vs (suc n) next) (rd vs) (rd vs))
   unfolding three
-  choice-well vs at n next =
-      found-reading (h vs (suc n) next)
+  choice_well vs at n next =
+      found_reading (h vs (suc n) next)
       (λ x i.
-      two-found _ _ _ (h vs x.records x.next) (λ y j. h vs y.records y.next)
+      two_found _ _ _ (h vs x.records x.next) (λ y j. h vs y.records y.next)
       (λ y z j k. record {
         closed = (i.closed, j.closed, k.closed);
         counted = omega (arith, i.counted, j.counted, k.counted);
@@ -153,46 +153,46 @@ module _ (d : ℕ) (rd : Operand) (h : (vs : List ℕ) (n at : ℕ) → Found (W
         nested = omega (arith, i.nested, j.nested, k.nested);
       }))
 
-  operands-well :
+  operands_well :
       (vs : List ℕ) (at n next : ℕ) (r : Record) → n < 128 → Named r
       → Found (Well (suc d) vs n) (operands rd vs at (suc n) next r)
   unfolding operands
-  operands-well vs at n next (Q.literal z) l k = leaf-well vs n next (QL at z) l tt refl refl
-  operands-well vs at n next Q.empty l k = leaf-well vs n next (QE at) l tt refl refl
-  operands-well vs at n next (Q.root i) l k = leaf-well vs n next (QR at i) l tt refl refl
-  operands-well vs at n next (Q.variable v) l k =
-      found_unless (bound v vs) 3 at (λ b. leaf-well vs n next (QV at v) l (b, k) refl refl)
-  operands-well vs at n next Q.sequence l k =
-      two-well vs vs n next (QS at) (λ x y c c'. (c, c')) (λ x y. refl) (λ x y. refl)
-  operands-well vs at n next (Q.letting v) l k =
-      two-well vs (v ∷ vs) n next (QT at v) (λ x y c c'. (k, c, c')) (λ x y. refl) (λ x y. refl)
-  operands-well vs at n next (Q.for v) l k =
-      two-well vs (v ∷ vs) n next (QF at v) (λ x y c c'. (k, c, c')) (λ x y. refl) (λ x y. refl)
-  operands-well vs at n next Q.choice l k = choice-well vs at n next
-  operands-well vs at n next (Q.function f) l k =
-      two-well vs vs n next (QO at f) (λ x y c c'. (c, c')) (λ x y. refl) (λ x y. refl)
-  operands-well vs at n next Q.counting l k = one-well vs n next (QC at) (λ x c. c) (λ x. refl) (λ x. refl)
-  operands-well vs at n next Q.values l k = one-well vs n next (QD at) (λ x c. c) (λ x. refl) (λ x. refl)
-  operands-well vs at n next (Q.step x t) l k = one-well vs n next (QX at x t) (λ y c. c) (λ y. refl) (λ y. refl)
+  operands_well vs at n next (Q.literal z) l k = leaf_well vs n next (QL at z) l tt refl refl
+  operands_well vs at n next Q.empty l k = leaf_well vs n next (QE at) l tt refl refl
+  operands_well vs at n next (Q.root i) l k = leaf_well vs n next (QR at i) l tt refl refl
+  operands_well vs at n next (Q.variable v) l k =
+      found_unless (bound v vs) 3 at (λ b. leaf_well vs n next (QV at v) l (b, k) refl refl)
+  operands_well vs at n next Q.sequence l k =
+      two_well vs vs n next (QS at) (λ x y c c'. (c, c')) (λ x y. refl) (λ x y. refl)
+  operands_well vs at n next (Q.letting v) l k =
+      two_well vs (v ∷ vs) n next (QT at v) (λ x y c c'. (k, c, c')) (λ x y. refl) (λ x y. refl)
+  operands_well vs at n next (Q.for v) l k =
+      two_well vs (v ∷ vs) n next (QF at v) (λ x y c c'. (k, c, c')) (λ x y. refl) (λ x y. refl)
+  operands_well vs at n next Q.choice l k = choice_well vs at n next
+  operands_well vs at n next (Q.function f) l k =
+      two_well vs vs n next (QO at f) (λ x y c c'. (c, c')) (λ x y. refl) (λ x y. refl)
+  operands_well vs at n next Q.counting l k = one_well vs n next (QC at) (λ x c. c) (λ x. refl) (λ x. refl)
+  operands_well vs at n next Q.values l k = one_well vs n next (QD at) (λ x c. c) (λ x. refl) (λ x. refl)
+  operands_well vs at n next (Q.step x t) l k = one_well vs n next (QX at x t) (λ y c. c) (λ y. refl) (λ y. refl)
 
 read_well : (d : ℕ) (bs vs : List ℕ) (n at : ℕ) → Found (Well d vs n) (read d bs vs n at)
 unfolding read record_at
 read_well zero bs vs n at =
-    found-reading (found_refusing 1 at (record-named bs at (word bs at 2))) (λ r k. found_refuses)
+    found_reading (found_refusing 1 at (record-named bs at (word bs at 2))) (λ r k. found_refuses)
 read_well (suc d) bs vs n at =
-    found-reading (found_refusing 1 at (record-named bs at (word bs at 2)))
+    found_reading (found_refusing 1 at (record-named bs at (word bs at 2)))
     (λ r k.
     found_unless (ltb n 128) 2 at
-    (λ t. operands-well d (read d bs) (read_well d bs) vs at n r.1 r.0 (ltb-true n 128 t) k))
+    (λ t. operands_well d (read d bs) (read_well d bs) vs at n r.1 r.0 (ltb-true n 128 t) k))
 
-pub closed-read :
+pub closed_read :
     (d : ℕ) (bs vs : List ℕ) (n at : ℕ) (r : Read) → read d bs vs n at ≡ reads r → Well d vs n r
-closed-read d bs vs n at r e = (read_well d bs vs n at).found r e
+closed_read d bs vs n at r e = (read_well d bs vs n at).found r e
 
 query_accepted : (bs : List ℕ) → Found Accepted (query_read bs)
 unfolding query_read
 query_accepted bs =
-    found-reading (read_well 32 bs [] 0 0)
+    found_reading (read_well 32 bs [] 0 0)
     (λ x w.
     found_unless (eqb x.next (length bs)) 1 x.next
     (λ _.
@@ -279,100 +279,100 @@ module _ (f g : ℕ → Bool) {e e' : Env} where
       go true k = refl
       go false k = k (or_right (f v) (g v) t)
 
-pub eval-free :
+pub eval_free :
     (w : World) (q : Query) (e e' : Env) → ((v : ℕ) → free v q ≡ true → e v ≡ e' v) → eval w e q ≡ eval w e' q
 unfolding eval free
-eval-free w (QL at z) e e' h = refl
-eval-free w (QE at) e e' h = refl
-eval-free w (QR at k) e e' h = refl
-eval-free w (QV at u) e e' h = ap gives (h u (eq-eqb u u refl))
-eval-free w (QS at a b) e e' h =
-    let p = eval-free w a e e' (agree_left (frees a) _ h) in
-    let q = eval-free w b e e' (agree_right (frees a) (frees b) h) in
+eval_free w (QL at z) e e' h = refl
+eval_free w (QE at) e e' h = refl
+eval_free w (QR at k) e e' h = refl
+eval_free w (QV at u) e e' h = ap gives (h u (eq-eqb u u refl))
+eval_free w (QS at a b) e e' h =
+    let p = eval_free w a e e' (agree_left (frees a) _ h) in
+    let q = eval_free w b e e' (agree_right (frees a) (frees b) h) in
     λ i. attempt (p i) (λ xs. attempt (q i) (λ ys. gives (xs ++ ys)))
-eval-free w (QT at u a b) e e' h =
-    let p = eval-free w a e e' (agree_left (frees a) _ h) in
+eval_free w (QT at u a b) e e' h =
+    let p = eval_free w a e e' (agree_left (frees a) _ h) in
     let q : (xs : List ℤ) → eval w (bind u xs e) b ≡ eval w (bind u xs e') b =
-    λ xs. eval-free w b (bind u xs e) (bind u xs e') (agree_bind (frees a) (frees b) u xs h)
+    λ xs. eval_free w b (bind u xs e) (bind u xs e') (agree_bind (frees a) (frees b) u xs h)
     in
     λ i. attempt (p i) (λ xs. q xs i)
-eval-free w (QF at u a b) e e' h =
-    let p = eval-free w a e e' (agree_left (frees a) _ h) in
+eval_free w (QF at u a b) e e' h =
+    let p = eval_free w a e e' (agree_left (frees a) _ h) in
     let q : (x : ℤ) → eval w (bind u (x ∷ []) e) b ≡ eval w (bind u (x ∷ []) e') b =
-    λ x. eval-free w b (bind u (x ∷ []) e) (bind u (x ∷ []) e') (agree_bind (frees a) (frees b) u (x ∷ []) h)
+    λ x. eval_free w b (bind u (x ∷ []) e) (bind u (x ∷ []) e') (agree_bind (frees a) (frees b) u (x ∷ []) h)
     in
     λ i. attempt (p i) (λ xs. each (λ x. q x i) xs)
-eval-free w (QI at c a b) e e' h =
+eval_free w (QI at c a b) e e' h =
     let k = agree_left (λ v. free v c || free v a) (frees b) h in
-    let o = eval-free w c e e' (agree_left (frees c) (frees a) k) in
-    let p = eval-free w a e e' (agree_right (frees c) (frees a) k) in
-    let q = eval-free w b e e' (agree_right (λ v. free v c || free v a) (frees b) h) in
+    let o = eval_free w c e e' (agree_left (frees c) (frees a) k) in
+    let p = eval_free w a e e' (agree_right (frees c) (frees a) k) in
+    let q = eval_free w b e e' (agree_right (λ v. free v c || free v a) (frees b) h) in
     λ i. attempt (o i) (λ xs. attempt (w.truth xs) (λ t. cond t (p i) (q i)))
-eval-free w (QO at f a b) e e' h =
-    let p = eval-free w a e e' (agree_left (frees a) _ h) in
-    let q = eval-free w b e e' (agree_right (frees a) (frees b) h) in
+eval_free w (QO at f a b) e e' h =
+    let p = eval_free w a e e' (agree_left (frees a) _ h) in
+    let q = eval_free w b e e' (agree_right (frees a) (frees b) h) in
     λ i. attempt (p i) (λ xs. attempt (q i) (λ ys. apply w f xs ys))
-eval-free w (QC at a) e e' h =
-    ap (λ (r : Attempt (List ℤ)). attempt r (λ xs. gives (pos (length xs) ∷ []))) (eval-free w a e e' h)
-eval-free w (QD at a) e e' h =
-    ap (λ (r : Attempt (List ℤ)). attempt r (λ xs. values w xs)) (eval-free w a e e' h)
-eval-free w (QX at x t a) e e' h =
-    ap (λ (r : Attempt (List ℤ)). attempt r (λ xs. w.step x t xs)) (eval-free w a e e' h)
+eval_free w (QC at a) e e' h =
+    ap (λ (r : Attempt (List ℤ)). attempt r (λ xs. gives (pos (length xs) ∷ []))) (eval_free w a e e' h)
+eval_free w (QD at a) e e' h =
+    ap (λ (r : Attempt (List ℤ)). attempt r (λ xs. values w xs)) (eval_free w a e e' h)
+eval_free w (QX at x t a) e e' h =
+    ap (λ (r : Attempt (List ℤ)). attempt r (λ xs. w.step x t xs)) (eval_free w a e e' h)
 
 -- .. and it counts the same
-pub evaluate-free :
+pub evaluate_free :
     (w : World) (room : ℕ) (q : Query) (e e' : Env) → ((v : ℕ) → free v q ≡ true → e v ≡ e' v)
     → evaluate w room e q ≡ evaluate w room e' q
 unfolding evaluate free
-evaluate-free w room (QL at z) e e' h = refl
-evaluate-free w room (QE at) e e' h = refl
-evaluate-free w room (QR at k) e e' h = refl
-evaluate-free w room (QV at u) e e' h = ap (λ (xs : List ℤ). adding room at 0 xs) (h u (eq-eqb u u refl))
-evaluate-free w room (QS at a b) e e' h =
-    let p = evaluate-free w room a e e' (agree_left (frees a) _ h) in
+evaluate_free w room (QL at z) e e' h = refl
+evaluate_free w room (QE at) e e' h = refl
+evaluate_free w room (QR at k) e e' h = refl
+evaluate_free w room (QV at u) e e' h = ap (λ (xs : List ℤ). adding room at 0 xs) (h u (eq-eqb u u refl))
+evaluate_free w room (QS at a b) e e' h =
+    let p = evaluate_free w room a e e' (agree_left (frees a) _ h) in
     let q : (s : Standing) → evaluate w (room - length s.items) e b ≡ evaluate w (room - length s.items) e' b =
-    λ s. evaluate-free w (room - length s.items) b e e' (agree_right (frees a) (frees b) h)
+    λ s. evaluate_free w (room - length s.items) b e e' (agree_right (frees a) (frees b) h)
     in
     λ i.
     work (p i)
     (λ s.
     work (q s i) (λ t. stand (s.items ++ t.items) (max s.count (length s.items + t.count))))
-evaluate-free w room (QT at u a b) e e' h =
-    let p = evaluate-free w room a e e' (agree_left (frees a) _ h) in
+evaluate_free w room (QT at u a b) e e' h =
+    let p = evaluate_free w room a e e' (agree_left (frees a) _ h) in
     let q :
     (s : Standing)
     → evaluate w (room - length s.items) (bind u s.items e) b
     ≡ evaluate w (room - length s.items) (bind u s.items e') b =
     λ s.
-    evaluate-free w (room - length s.items) b (bind u s.items e) (bind u s.items e')
+    evaluate_free w (room - length s.items) b (bind u s.items e) (bind u s.items e')
     (agree_bind (frees a) (frees b) u s.items h)
     in
     λ i.
     work (p i) (λ s. work (q s i) (λ t. stand t.items (max s.count (length s.items + t.count))))
-evaluate-free w room (QF at u a b) e e' h =
-    let p = evaluate-free w room a e e' (agree_left (frees a) _ h) in
+evaluate_free w room (QF at u a b) e e' h =
+    let p = evaluate_free w room a e e' (agree_left (frees a) _ h) in
     let q :
     (left : ℕ) (x : ℤ)
     → evaluate w left (bind u (x ∷ []) e) b ≡ evaluate w left (bind u (x ∷ []) e') b =
     λ left x.
-    evaluate-free w left b (bind u (x ∷ []) e) (bind u (x ∷ []) e')
+    evaluate_free w left b (bind u (x ∷ []) e) (bind u (x ∷ []) e')
     (agree_bind (frees a) (frees b) u (x ∷ []) h)
     in
     λ i. work (p i) (λ s. loop (λ left x. q left x i) room (length s.items) s.count [] s.items)
-evaluate-free w room (QI at c a b) e e' h =
+evaluate_free w room (QI at c a b) e e' h =
     let k = agree_left (λ v. free v c || free v a) (frees b) h in
-    let o = evaluate-free w room c e e' (agree_left (frees c) (frees a) k) in
-    let p = evaluate-free w room a e e' (agree_right (frees c) (frees a) k) in
-    let q = evaluate-free w room b e e' (agree_right (λ v. free v c || free v a) (frees b) h) in
+    let o = evaluate_free w room c e e' (agree_left (frees c) (frees a) k) in
+    let p = evaluate_free w room a e e' (agree_right (frees c) (frees a) k) in
+    let q = evaluate_free w room b e e' (agree_right (λ v. free v c || free v a) (frees b) h) in
     λ i.
     work (o i)
     (λ s.
     trying at (w.truth s.items)
     (λ t. work (cond t (p i) (q i)) (λ u. stand u.items (max s.count u.count))))
-evaluate-free w room (QO at f a b) e e' h =
-    let p = evaluate-free w room a e e' (agree_left (frees a) _ h) in
+evaluate_free w room (QO at f a b) e e' h =
+    let p = evaluate_free w room a e e' (agree_left (frees a) _ h) in
     let q : (s : Standing) → evaluate w (room - length s.items) e b ≡ evaluate w (room - length s.items) e' b =
-    λ s. evaluate-free w (room - length s.items) b e e' (agree_right (frees a) (frees b) h)
+    λ s. evaluate_free w (room - length s.items) b e e' (agree_right (frees a) (frees b) h)
     in
     λ i.
     work (p i)
@@ -381,24 +381,24 @@ evaluate-free w room (QO at f a b) e e' h =
     (λ t.
     trying at (apply w f s.items t.items)
     (λ xs. stand xs (max s.count (length s.items + t.count)))))
-evaluate-free w room (QC at a) e e' h =
+evaluate_free w room (QC at a) e e' h =
     λ i.
-    work (evaluate-free w room a e e' h i)
+    work (evaluate_free w room a e e' h i)
     (λ s.
     work (adding room at 0 (pos (length s.items) ∷ [])) (λ t. stand t.items (max s.count t.count)))
-evaluate-free w room (QD at a) e e' h =
-    λ i. work (evaluate-free w room a e e' h i) (λ s. trying at (values w s.items) (λ xs. stand xs s.count))
-evaluate-free w room (QX at x t a) e e' h =
+evaluate_free w room (QD at a) e e' h =
+    λ i. work (evaluate_free w room a e e' h i) (λ s. trying at (values w s.items) (λ xs. stand xs s.count))
+evaluate_free w room (QX at x t a) e e' h =
     λ i.
-    work (evaluate-free w room a e e' h i)
+    work (evaluate_free w room a e e' h i)
     (λ s.
     trying at (w.step x t s.items)
     (λ xs.
     work (adding room at (length s.items) xs) (λ u. stand u.items (max s.count u.count))))
 
 -- only what the bound variables hold matters
-pub eval-closed :
+pub eval_closed :
     (w : World) (q : Query) (vs : List ℕ) (e e' : Env) → Closed q vs
     → ((v : ℕ) → v < 8 → bound v vs ≡ true → e v ≡ e' v) → eval w e q ≡ eval w e' q
-eval-closed w q vs e e' c h =
-    eval-free w q e e' (λ v f. h v (free_bound q vs v c f).1 (free_bound q vs v c f).0)
+eval_closed w q vs e e' c h =
+    eval_free w q e e' (λ v f. h v (free_bound q vs v c f).1 (free_bound q vs v c f).0)

@@ -1,9 +1,9 @@
 -- The counted evaluation agrees with the meaning, and the runner with running the operators (document 01, 'Room').
 -- For the evaluation (evaluate, eval) and for the runner (running, run):
 --     evaluate_done, evaluate_failed      an answer other than 6 is the meaning's
---     more_room, less-room                the count of a result is exactly the room that it needs
+--     more_room, less_room                the count of a result is exactly the room that it needs
 --     evaluate_gives, evaluate_fails      what the meaning comes to decides the answer at every room
---     running_done, running_failed, running_fits, running_more, running-less, running-gives, running_fails     the same
+--     running_done, running_failed, running_fits, running_more, running_less, running_gives, running_fails     the same
 use Prim.Native.Nat.{ℕ, ◌+◌, ◌-◌, ◌≤◌, ◌<◌, max}
 use mathlib.Core.Path.{◌≡◌, refl, sym, ◌∙◌, ap, subst}
 use mathlib.Core.List.{List, [], ◌∷◌, ◌++◌, append_assoc, append-nil}
@@ -30,21 +30,21 @@ use Rattle.theorems.specs.Counted.{like_full, like_done}
 
 -- Like work after like work, an attempt in front, a test of the room in front
 module _ {A B C D : Type 0} {how : A → B} {how' : C → D} where
-  like-work :
+  like_work :
       {m : Work A} {a : Attempt B} {f : A → Work C} (g : B → Attempt D)
       → Like how m a → ((x : A) → Like how' (f x) (g (how x))) → Like how' (work m f) (attempt a g)
   unfolding work attempt
-  like-work g like_full k = like_full
-  like-work g like_failed k = like_failed
-  like-work {f = f} g (like_done {x = x} e) k = subst (λ (y : B). Like how' (f x) (g y)) e (k x)
+  like_work g like_full k = like_full
+  like_work g like_failed k = like_failed
+  like_work {f = f} g (like_done {x = x} e) k = subst (λ (y : B). Like how' (f x) (g y)) e (k x)
 
 module _ {C D : Type 0} {how : C → D} where
-  like-trying :
+  like_trying :
       {A : Type 0} {f : A → Work C} {g : A → Attempt D} (at : ℕ) (a : Attempt A)
       → ((x : A) → Like how (f x) (g x)) → Like how (trying at a f) (attempt a g)
   unfolding trying attempt
-  like-trying at fails k = like_failed
-  like-trying at (gives x) k = k x
+  like_trying at fails k = like_failed
+  like_trying at (gives x) k = k x
 
   like_within : {m : Work C} {a : Attempt D} (b : Bool) (at : ℕ) → Like how m a → Like how (within b at m) a
   unfolding within
@@ -52,27 +52,27 @@ module _ {C D : Type 0} {how : C → D} where
   like_within false at h = like_full
 
 -- the last of the attempts
-like-last :
+like_last :
     {C D : Type 0} {how : C → D} {f : D → Work C} (at : ℕ) (a : Attempt D) → ((y : D) → Like how (f y) (gives y))
     → Like how (trying at a f) a
-like-last {how = how} at a k = subst (Like how _) (attempt_gives a) (like-trying at a k)
+like_last {how = how} at a k = subst (Like how _) (attempt_gives a) (like_trying at a k)
 
-like-either :
+like_either :
     {A B : Type 0} {how : A → B} {m n : Work A} {a b : Attempt B} (t : Bool)
     → Like how m a → Like how n b → Like how (cond t m n) (cond t a b)
-like-either true h k = h
-like-either false h k = k
+like_either true h k = h
+like_either false h k = k
 
 like_adding : (room at below : ℕ) (xs : List ℤ) → Like items (adding room at below xs) (gives xs)
 unfolding adding stand
 like_adding room at below xs = like_within _ at (like_done refl)
 
 -- a new count changes nothing
-like-counted :
+like_counted :
     {m : Work Standing} {a : Attempt (List ℤ)} (count : Standing → ℕ) → Like items m a
     → Like items (work m (λ s. stand s.items (count s))) a
 unfolding stand
-like-counted {a = a} count h = subst (Like items _) (attempt_gives a) (like-work gives h (λ s. like_done refl))
+like_counted {a = a} count h = subst (Like items _) (attempt_gives a) (like_work gives h (λ s. like_done refl))
 
 -- results, then one turn's items, then the other turns' items
 turns :
@@ -84,70 +84,70 @@ turns results fails b = refl
 turns results (gives ys) fails = refl
 turns results (gives ys) (gives zs) = ap gives (append_assoc results ys zs)
 
-like-loop :
+like_loop :
     (body : ℕ → ℤ → Work Standing) (f : ℤ → Attempt (List ℤ)) → ((room : ℕ) (x : ℤ) → Like items (body room x) (f x))
     → (room base count : ℕ) (results xs : List ℤ)
     → Like items (loop body room base count results xs) (attempt (each f xs) (λ zs. gives (results ++ zs)))
 unfolding loop each stand
-like-loop body f h room base count results [] = unfold attempt in like_done (sym (append-nil results))
-like-loop body f h room base count results (x ∷ xs) =
+like_loop body f h room base count results [] = unfold attempt in like_done (sym (append-nil results))
+like_loop body f h room base count results (x ∷ xs) =
     subst (Like items _) (turns results (f x) (each f xs))
-    (like-work _ (h (room - (base + length results)) x)
+    (like_work _ (h (room - (base + length results)) x)
     (λ s.
-    like-loop body f h room base (max count (base + length results + s.count)) (results ++ s.items) xs))
+    like_loop body f h room base (max count (base + length results + s.count)) (results ++ s.items) xs))
 
 pub evaluate_like : (w : World) (room : ℕ) (e : Env) (q : Query) → Like items (evaluate w room e q) (eval w e q)
 unfolding evaluate eval stand
 evaluate_like w room e (QL at z) = like_adding room at 0 (z ∷ [])
 evaluate_like w room e (QE at) = like_done refl
-evaluate_like w room e (QR at k) = like-trying at _ (λ r. like_adding room at 0 (r ∷ []))
+evaluate_like w room e (QR at k) = like_trying at _ (λ r. like_adding room at 0 (r ∷ []))
 evaluate_like w room e (QV at v) = like_adding room at 0 (e v)
 evaluate_like w room e (QS at a b) =
-    like-work _ (evaluate_like w room e a)
-    (λ s. like-work _ (evaluate_like w (room - length s.items) e b) (λ t. like_done refl))
+    like_work _ (evaluate_like w room e a)
+    (λ s. like_work _ (evaluate_like w (room - length s.items) e b) (λ t. like_done refl))
 evaluate_like w room e (QT at v a b) =
-    like-work _ (evaluate_like w room e a)
-    (λ s. like-counted _ (evaluate_like w (room - length s.items) (bind v s.items e) b))
+    like_work _ (evaluate_like w room e a)
+    (λ s. like_counted _ (evaluate_like w (room - length s.items) (bind v s.items e) b))
 evaluate_like w room e (QF at v a b) =
-    like-work _ (evaluate_like w room e a)
+    like_work _ (evaluate_like w room e a)
     (λ s. subst (Like items _) (attempt_gives _)
-    (like-loop _ _ (λ left x. evaluate_like w left (bind v (x ∷ []) e) b) room (length s.items) s.count []
+    (like_loop _ _ (λ left x. evaluate_like w left (bind v (x ∷ []) e) b) room (length s.items) s.count []
     s.items))
 evaluate_like w room e (QI at c a b) =
-    like-work _ (evaluate_like w room e c)
-    (λ s. like-trying at _ (λ t. like-counted _ (like-either t (evaluate_like w room e a) (evaluate_like w room e b))))
+    like_work _ (evaluate_like w room e c)
+    (λ s. like_trying at _ (λ t. like_counted _ (like_either t (evaluate_like w room e a) (evaluate_like w room e b))))
 evaluate_like w room e (QO at f a b) =
-    like-work _ (evaluate_like w room e a)
-    (λ s. like-work _ (evaluate_like w (room - length s.items) e b) (λ t. like-last at _ (λ xs. like_done refl)))
+    like_work _ (evaluate_like w room e a)
+    (λ s. like_work _ (evaluate_like w (room - length s.items) e b) (λ t. like_last at _ (λ xs. like_done refl)))
 evaluate_like w room e (QC at a) =
-    like-work _ (evaluate_like w room e a)
-    (λ s. like-counted _ (like_adding room at 0 (pos (length s.items) ∷ [])))
+    like_work _ (evaluate_like w room e a)
+    (λ s. like_counted _ (like_adding room at 0 (pos (length s.items) ∷ [])))
 evaluate_like w room e (QD at a) =
-    like-work _ (evaluate_like w room e a) (λ s. like-last at _ (λ xs. like_done refl))
+    like_work _ (evaluate_like w room e a) (λ s. like_last at _ (λ xs. like_done refl))
 evaluate_like w room e (QX at x t a) =
-    like-work _ (evaluate_like w room e a)
-    (λ s. like-last at _ (λ xs. like-counted _ (like_adding room at (length s.items) xs)))
+    like_work _ (evaluate_like w room e a)
+    (λ s. like_last at _ (λ xs. like_counted _ (like_adding room at (length s.items) xs)))
 
 -- The runner: its count is the cells that the tables fill
 
-pub running-like :
+pub running_like :
     (w : World) (room : ℕ) (ps : List Placed) (ts : List Table) (n : ℕ)
     → Like tables (running w room ps ts n) (run w (operators ps) ts)
 unfolding running run
-running-like w room [] ts n = like_done refl
-running-like w room (p ∷ ps) ts n =
-    like-trying p.at _ (λ t. like_within _ p.at (running-like w room ps (ts ++ (t ∷ [])) (n + cells p t)))
+running_like w room [] ts n = like_done refl
+running_like w room (p ∷ ps) ts n =
+    like_trying p.at _ (λ t. like_within _ p.at (running_like w room ps (ts ++ (t ∷ [])) (n + cells p t)))
 
-pub running-measured :
+pub running_measured :
     (w : World) (ps : List Placed) (ts : List Table) (n : ℕ)
     → Measured n filled (λ f. Unit {0}) (λ room. running w room ps ts n)
 unfolding running
-running-measured w [] ts n = stood _ _ refl tt
-running-measured w (p ∷ ps) ts n =
+running_measured w [] ts n = stood _ _ refl tt
+running_measured w (p ∷ ps) ts n =
     trial n p.at
     (λ t _.
     tested n (n + cells p t) (n + cells p t) p.at (omega arith)
-    (running-measured w ps (ts ++ (t ∷ [])) (n + cells p t)))
+    (running_measured w ps (ts ++ (t ∷ [])) (n + cells p t)))
 
 -- What likeness says of an answer
 
@@ -208,10 +208,10 @@ module _ (w : World) (room : ℕ) (e : Env) (q : Query) where
       (s : Standing) → evaluate w room e q ≡ done s → (room' : ℕ) → s.count ≤ room' → evaluate w room' e q ≡ done s
   more_room s d room' h = done_more (measured w e q) room s (omega arith) d room' h
 
-  pub less-room :
+  pub less_room :
       (s : Standing) → evaluate w room e q ≡ done s → (room' : ℕ) → room' < s.count
       → (p : ℕ) × (evaluate w room' e q ≡ full p)
-  less-room s d room' h = done_less (measured w e q) room s (omega arith) d room' (omega arith) h
+  less_room s d room' h = done_less (measured w e q) room s (omega arith) d room' (omega arith) h
 
 -- 6 exactly where the count passes the room before anything has failed
 module _ (w : World) (e : Env) (q : Query) where
@@ -226,28 +226,28 @@ module _ (w : World) (e : Env) (q : Query) where
 
 module _ (w : World) (room : ℕ) (ps : List Placed) (ts : List Table) (n : ℕ) where
   pub running_done : (f : Filled) → running w room ps ts n ≡ done f → run w (operators ps) ts ≡ gives f.tables
-  running_done f d = like_gives f (running-like w room ps ts n) d
+  running_done f d = like_gives f (running_like w room ps ts n) d
 
   pub running_failed : (p : ℕ) → running w room ps ts n ≡ failed p → run w (operators ps) ts ≡ fails
-  running_failed p d = like_fails p (running-like w room ps ts n) d
+  running_failed p d = like_fails p (running_like w room ps ts n) d
 
   pub running_fits : (f : Filled) → n ≤ room → running w room ps ts n ≡ done f → f.filled ≤ room
-  running_fits f h d = done_fits (running-measured w ps ts n) room f h d
+  running_fits f h d = done_fits (running_measured w ps ts n) room f h d
 
   pub running_more :
       (f : Filled) → n ≤ room → running w room ps ts n ≡ done f → (room' : ℕ) → f.filled ≤ room'
       → running w room' ps ts n ≡ done f
-  running_more f h d room' l = done_more (running-measured w ps ts n) room f h d room' l
+  running_more f h d room' l = done_more (running_measured w ps ts n) room f h d room' l
 
-  pub running-less :
+  pub running_less :
       (f : Filled) → n ≤ room → running w room ps ts n ≡ done f → (room' : ℕ) → n ≤ room' → room' < f.filled
       → (p : ℕ) × (running w room' ps ts n ≡ full p)
-  running-less f h d room' h' l = done_less (running-measured w ps ts n) room f h d room' h' l
+  running_less f h d room' h' l = done_less (running_measured w ps ts n) room f h d room' h' l
 
 module _ (w : World) (ps : List Placed) (ts : List Table) (n : ℕ) where
-  pub running-gives :
+  pub running_gives :
       (us : List Table) → run w (operators ps) ts ≡ gives us → Gives n filled tables (λ room. running w room ps ts n) us
-  running-gives us d = giving (running-measured w ps ts n) (λ room. running-like w room ps ts n) us d
+  running_gives us d = giving (running_measured w ps ts n) (λ room. running_like w room ps ts n) us d
 
   pub running_fails : run w (operators ps) ts ≡ fails → Fails n (λ room. running w room ps ts n)
-  running_fails d = failing (running-measured w ps ts n) (λ room. running-like w room ps ts n) d
+  running_fails d = failing (running_measured w ps ts n) (λ room. running_like w room ps ts n) d

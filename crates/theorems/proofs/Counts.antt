@@ -4,7 +4,7 @@
 --     trial, tested, then       after an attempt, a test of the room, other work
 --     raised, lowered           seen from a higher count on; in the room that items below leave
 -- What one answer says of the others:
---     done_fits, done_sound, done_more, done_less, failed-more, full_less
+--     done_fits, done_sound, done_more, done_less, failed_more, full_less
 -- The evaluation:
 --     measured w e q            the evaluation of a query is measured by its count
 --     counts w room e q s       what stands at the end has at most as many items as its count, which is in the room
@@ -24,7 +24,7 @@ use Rattle.meaning.specs.World.{World}
 use Rattle.meaning.specs.Query.{Query, QL, QE, QR, QV, QS, QT, QF, QI, QO, QC, QD, QX}
 use Rattle.meaning.specs.Meaning.{Env, bind, apply, values}
 use Rattle.meaning.specs.Counted.{Standing, stand, adding, loop, evaluate}
-use Rattle.laws.proofs.Outcomes.{full_done, full_failed, given_fails, given_gives, given-attempt}
+use Rattle.laws.proofs.Outcomes.{full_done, full_failed, given_fails, given_gives, given_attempt}
 use Rattle.laws.specs.Attempt.{Given}
 use Rattle.laws.proofs.Outcomes.{given_any}
 use Rattle.theorems.specs.Counts.{Ended, Full, Measured, Covered}
@@ -194,8 +194,8 @@ valued : (w : World) (xs : List ℤ) → Given (λ ys. length ys ≡ length xs) 
 unfolding values each
 valued w [] = given_gives refl
 valued w (x ∷ xs) =
-    given-attempt {P = λ ys. length ys ≡ 1} (given_any (w.value x) (λ y. given_gives refl))
-    (λ ys h. given-attempt (valued w xs) (λ zs h'. given_gives (omega (arith, length-append ys zs))))
+    given_attempt {P = λ ys. length ys ≡ 1} (given_any (w.value x) (λ y. given_gives refl))
+    (λ ys h. given_attempt (valued w xs) (λ zs h'. given_gives (omega (arith, length-append ys zs))))
 
 -- the turns of a `for`
 looped :
@@ -278,9 +278,9 @@ module _ {A : Type 0} {c : ℕ} {cost : A → ℕ} {sound : A → Type 0} {f : �
     done_less room' h' l = m.short room' h' (omega (arith, ended_done.0))
 
   -- more room, the same failure; less room than an answer 6 had, answer 6 again
-  pub failed-more :
+  pub failed_more :
       (room room' p : ℕ) → c ≤ room → room ≤ room' → f room ≡ failed p → f room' ≡ failed p
-  failed-more room room' p h l d =
+  failed_more room room' p h l d =
       let t = settled room h (λ s. absurd (full_failed s.0 p (sym s.1 ∙ d))) in
       m.enough room' (omega arith) ∙ sym t.1 ∙ d
 

@@ -1,5 +1,5 @@
 -- What a step and a root give (document 01, 'Query records'), and the laws of a world that plans rest on.
---     step-nodes          what a step gives: nodes_inside, each is a node; nodes_rise, the cells rise
+--     step_nodes          what a step gives: nodes_inside, each is a node; nodes_rise, the cells rise
 --     root_node           what a root gives
 --     rising_sorted       rising cells are sorted
 --     lawful c            the world of a catalogue is lawful
@@ -15,11 +15,11 @@ use Rattle.codes.specs.declared.Test.{Test}
 use Rattle.cells.specs.Cell.{node_cell, before}
 use Rattle.laws.specs.Lists.{any, below, All, Rising}
 use Rattle.laws.proofs.Lists.{all_any, all_both, all_map, rising_map, filter_none, all_kept, all_passed}
-use Rattle.laws.proofs.Lists.{rising_kept, all_mapped, rising-mapped, all_below, rising_below}
+use Rattle.laws.proofs.Lists.{rising_kept, all_mapped, rising_mapped, all_below, rising_below}
 use Rattle.laws.specs.Attempt.{gives, attempt, Given}
 use Rattle.meaning.specs.Catalogue.{Catalogue}
 use Rattle.meaning.specs.World.{truth, ranks_of, reached, step, roots, member, root_of, world_of}
-use Rattle.laws.proofs.Outcomes.{given_fails, given_gives, given-attempt, given_any}
+use Rattle.laws.proofs.Outcomes.{given_fails, given_gives, given_attempt, given_any}
 use Rattle.theorems.specs.Nodes.{IsNode, Before, Nodes, IsRoot, Lawful}
 
 -- a node of lower rank stands before
@@ -38,10 +38,10 @@ before_after (negsuc m) (negsuc n) h = le-ltb m n (omega (arith, ltb-true n m h)
 pub rising_sorted : (ys : List ℤ) → Rising Before ys → Rising (λ a b. before b a ≡ false) ys
 rising_sorted ys h = rising_map ys before_after h
 
-reached-nodes :
+reached_nodes :
     (c : Catalogue) (axis : Axis) (test : Test) (xs : List ℕ) → Nodes c (map node_cell (reached c axis test xs))
 unfolding reached
-reached-nodes c axis test xs =
+reached_nodes c axis test xs =
     record {
       ranks = reached c axis test xs;
       cells = refl;
@@ -52,11 +52,11 @@ reached-nodes c axis test xs =
 stepped : (c : Catalogue) (axis : Axis) (test : Test) (xs : List ℤ) → Given (Nodes c) (step c axis test xs)
 unfolding step
 stepped c axis test xs =
-    given_any (ranks_of c xs) (λ rs. given_gives (reached-nodes c axis test rs))
+    given_any (ranks_of c xs) (λ rs. given_gives (reached_nodes c axis test rs))
 
-pub step-nodes :
+pub step_nodes :
     (c : Catalogue) (axis : Axis) (test : Test) (xs ys : List ℤ) → step c axis test xs ≡ gives ys → Nodes c ys
-step-nodes c axis test xs ys e = (stepped c axis test xs).given ys e
+step_nodes c axis test xs ys e = (stepped c axis test xs).given ys e
 
 -- every one is a node of the catalogue
 pub nodes_inside : (c : Catalogue) (ys : List ℤ) → Nodes c ys → All (IsNode c) ys
@@ -68,7 +68,7 @@ nodes_inside c ys n =
 pub nodes_rise : (c : Catalogue) (ys : List ℤ) → Nodes c ys → Rising Before ys
 nodes_rise c ys n =
     subst (Rising Before) (sym n.cells)
-    (rising-mapped Before node_cell n.ranks (rising_map n.ranks node_before n.rise))
+    (rising_mapped Before node_cell n.ranks (rising_map n.ranks node_before n.rise))
 
 -- member k has what every member has
 member_all : {A : Type 0} (P : A → Type 0) (xs : List A) (k : ℕ) → All P xs → Given P (member xs k)
@@ -87,7 +87,7 @@ roots_all c =
 rooted : (c : Catalogue) (k : ℕ) → Given (IsRoot c) (root_of c k)
 unfolding root_of
 rooted c k =
-    given-attempt (member_all _ (roots c) (k - 1) (roots_all c))
+    given_attempt (member_all _ (roots c) (k - 1) (roots_all c))
     (λ r h. given_gives (record { rank = r; cell = refl; inside = h.0; top = h.1 }))
 
 pub root_node : (c : Catalogue) (k : ℕ) (y : ℤ) → root_of c k ≡ gives y → IsRoot c y
@@ -108,5 +108,5 @@ lawful c =
     record {
       truth_nothing = refl;
       step_nothing = step_from_nothing c;
-      step_rises = λ axis test xs ys e. nodes_rise c ys (step-nodes c axis test xs ys e);
+      step_rises = λ axis test xs ys e. nodes_rise c ys (step_nodes c axis test xs ys e);
     }

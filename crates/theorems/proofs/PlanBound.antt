@@ -23,15 +23,15 @@ use Rattle.theorems.specs.Closed.{records}
 use Rattle.meaning.specs.Translation.{Made, Tables, free_in, others_in, lifts, rule_l, rule_r, rule_e, tail_s, head_f, tail_f}
 use Rattle.meaning.specs.Translation.{head_i, tail_o, tail_c, tail_d, tail_x, then, tr, tail_last, plan}
 
-length-cond :
+length_cond :
     {A : Type 0} (t : Bool) (x : A) (xs : List A) (n : ℕ) → length xs ≤ n → length (cond t (x ∷ xs) xs) ≤ suc n
-length-cond true x xs n h = omega arith
-length-cond false x xs n h = omega arith
+length_cond true x xs n h = omega arith
+length_cond false x xs n h = omega arith
 
 pub length_filter : {A : Type 0} (p : A → Bool) (xs : List A) → length (filter p xs) ≤ length xs
 unfolding filter
 length_filter p [] = omega arith
-length_filter p (x ∷ xs) = length-cond (p x) x (filter p xs) (length xs) (length_filter p xs)
+length_filter p (x ∷ xs) = length_cond (p x) x (filter p xs) (length xs) (length_filter p xs)
 
 pub length_lifts : (e : Tables) (m : ℕ) (cs : List ℕ) (n : ℕ) (vs : List ℕ) → length (lifts e m cs n vs) ≡ 2 * length vs
 unfolding lifts

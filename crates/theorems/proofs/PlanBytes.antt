@@ -3,7 +3,7 @@
 --                                                  them
 --     plain_mag           an integer's or a boolean's cell is in the signed 64-bit range
 --     plan_record m t rest  a record with the mark R m, the table t and the rest
---     operator-back       that holds of every writable operator
+--     operator_back       that holds of every writable operator
 --     operator_small      .. and its bytes are bytes
 --     operator_length     .. at most 12
 use Prim.Native.Nat.{ℕ, zero, suc, ◌+◌, ◌-◌, ◌/◌, ◌%◌, ◌≤◌, ◌<◌}
@@ -59,11 +59,11 @@ module _ (xs zs : List ℕ) where
   unfolding fits
   fits_at n h = le-leb (length xs + n) (length (xs ++ zs)) (simp length-append (omega arith))
 
-  sized-at :
+  sized_at :
       (n : ℕ) (o : Op) (r : Attempt Op) → n ≤ length zs → r ≡ gives o →
       sized (xs ++ zs) (length xs) n r ≡ gives (o, length xs + n)
   unfolding sized provided attempt
-  sized-at n o r h e = rw (fits_at n h, e)
+  sized_at n o r h e = rw (fits_at n h, e)
 
 -- Cells
 
@@ -110,19 +110,19 @@ fragment_back k h i = rw (le-leb 1 k h, le-leb k 255 i)
 
 -- Operators: the mark R m, the number of a table, and the rest
 
-operator-marked :
+operator_marked :
     (bs : List ℕ) (at m : ℕ) (r : Attempt (Op × ℕ)) → word bs at 2 ≡ m → operator_of bs at m ≡ r → operator_at bs at ≡ r
 unfolding operator_at
-operator-marked bs at m r p q = rw p q
+operator_marked bs at m r p q = rw p q
 
-back-RT :
+back_RT :
     (xs ys : List ℕ) →
     operator_at (xs ++ (operator_bytes RT ++ ys)) (length xs) ≡ gives (RT, length xs + length (operator_bytes RT))
 unfolding operator_bytes bytes_of operator_of word
-back-RT xs ys =
+back_RT xs ys =
     let zs : List ℕ = 0x52 ∷ 0x54 ∷ ys in
-    operator-marked (xs ++ zs) (length xs) mark_rt _ (word_first xs zs 2)
-    (sized-at xs zs 2 RT (gives RT) (omega arith) refl)
+    operator_marked (xs ++ zs) (length xs) mark_rt _ (word_first xs zs 2)
+    (sized_at xs zs 2 RT (gives RT) (omega arith) refl)
 
 -- a record: the mark R m, the number of a table, and the rest
 abbrev plan_record : ℕ → ℕ → List ℕ → List ℕ
@@ -144,8 +144,8 @@ module _ (xs : List ℕ) (m t : ℕ) (h : t < 65536) (rest : List ℕ) where
       ≡ sized (xs ++ plan_record m t rest) (length xs) n r →
       operator_at (xs ++ plan_record m t rest) (length xs) ≡ gives (o, length xs + n)
   record-back n o r k p q =
-      operator-marked (xs ++ plan_record m t rest) (length xs) (0x5200 + m) _ mark_back
-      (q ∙ sized-at xs (plan_record m t rest) n o r (omega arith) p)
+      operator_marked (xs ++ plan_record m t rest) (length xs) (0x5200 + m) _ mark_back
+      (q ∙ sized_at xs (plan_record m t rest) n o r (omega arith) p)
 
 back_RE : (t : ℕ) → t < 65536 → ReadsBack (RE t)
 unfolding operator_bytes bytes_of operator_of
@@ -172,27 +172,27 @@ back_RD t u h k xs ys =
     (ap₂ (λ a b. gives (RD a b)) (table_back xs 0x44 t h (bytes_of 2 u ++ ys)) (second_back 0x44 t u h k xs ys)) refl
 
 -- one column
-column-back :
+column_back :
     (f : ℕ → ℕ → Op) (m t c : ℕ) (xs ys : List ℕ) → t < 65536 →
     ((bs : List ℕ) (at : ℕ) →
     operator_of bs at (0x5200 + m) ≡ sized bs at 5 (gives (f (word bs (at + 2) 2) (byte_at bs (at + 4))))) →
     operator_at (xs ++ plan_record m t (c ∷ ys)) (length xs) ≡ gives (f t c, length xs + 5)
-column-back f m t c xs ys h q =
+column_back f m t c xs ys h q =
     record-back xs m t h (c ∷ ys) 5 (f t c) _ (omega arith)
     (ap₂ (λ a b. gives (f a b)) (table_back xs m t h (c ∷ ys)) (byte_at_lem xs (plan_record m t (c ∷ ys)) 4))
     (q (xs ++ plan_record m t (c ∷ ys)) (length xs))
 
 back_RS : (t c : ℕ) → t < 65536 → ReadsBack (RS t c)
 unfolding operator_bytes bytes_of operator_of
-back_RS t c h xs ys = column-back RS 0x53 t c xs ys h (λ bs at. refl)
+back_RS t c h xs ys = column_back RS 0x53 t c xs ys h (λ bs at. refl)
 
 back_RC : (t c : ℕ) → t < 65536 → ReadsBack (RC t c)
 unfolding operator_bytes bytes_of operator_of
-back_RC t c h xs ys = column-back RC 0x43 t c xs ys h (λ bs at. refl)
+back_RC t c h xs ys = column_back RC 0x43 t c xs ys h (λ bs at. refl)
 
 back_RK : (t c : ℕ) → t < 65536 → ReadsBack (RK t c)
 unfolding operator_bytes bytes_of operator_of
-back_RK t c h xs ys = column-back RK 0x4B t c xs ys h (λ bs at. refl)
+back_RK t c h xs ys = column_back RK 0x4B t c xs ys h (λ bs at. refl)
 
 -- a cell
 module _ (t : ℕ) (z : ℤ) (h : t < 65536) (p : plain_in (held z) ≡ true) (xs ys : List ℕ) where
@@ -207,18 +207,18 @@ module _ (t : ℕ) (z : ℤ) (h : t < 65536) (p : plain_in (held z) ≡ true) (x
       ∙ word_written (0x52 ∷ 0x41 ∷ t / 256 % 256 ∷ t % 256 ∷ []) ys 8 (bits8 z) (bits8_room z (plain_mag z p)))
       ∙ signed_bits8 z (plain_mag z p)
 
-attach-back :
+attach_back :
     (bs : List ℕ) (at t : ℕ) (y z : ℤ) → word bs (at + 2) 2 ≡ t → y ≡ z → plain_in (held z) ≡ true →
     attach_at bs at y ≡ gives (RA t z)
 unfolding attach_at provided
-attach-back bs at t y z a b p = rw (b, p, a)
+attach_back bs at t y z a b p = rw (b, p, a)
 
 back_RA : (t : ℕ) (z : ℤ) → t < 65536 → plain_in (held z) ≡ true → ReadsBack (RA t z)
 unfolding operator_bytes bytes_of operator_of
 back_RA t z h p xs ys =
     let rest : List ℕ = bytes_of 8 (bits8 z) ++ ys in
     record-back xs 0x41 t h rest 12 (RA t z) _ (omega arith)
-    (attach-back (xs ++ plan_record 0x41 t rest) (length xs) t _ z
+    (attach_back (xs ++ plan_record 0x41 t rest) (length xs) t _ z
     (table_back xs 0x41 t h rest) (cell_back t z h p xs ys) p)
     refl
 
@@ -247,11 +247,11 @@ back_RJ t c u d h k xs ys =
 take_back : (cs ys : List ℕ) → take (length cs) (cs ++ ys) ≡ cs
 take_back cs ys = take-append_seam cs ys
 
-project-back :
+project_back :
     (bs : List ℕ) (at t : ℕ) (cs : List ℕ) → word bs (at + 2) 2 ≡ t → columns_at bs (at + 5) (length cs) ≡ cs →
     1 ≤ length cs → length cs ≤ 6 → project_at bs at (length cs) ≡ gives (RP t cs)
 unfolding project_at provided
-project-back bs at t cs a b i j = rw (le-leb 1 (length cs) i, le-leb (length cs) 6 j, a, b)
+project_back bs at t cs a b i j = rw (le-leb 1 (length cs) i, le-leb (length cs) 6 j, a, b)
 
 back_RP : (t : ℕ) (cs : List ℕ) → t < 65536 → 1 ≤ length cs → length cs ≤ 6 → ReadsBack (RP t cs)
 unfolding operator_bytes bytes_of operator_of columns_at
@@ -263,16 +263,16 @@ back_RP t cs h i j xs ys =
     let c : columns_at bs (length xs + 5) (length cs) ≡ cs = columns_at_lem xs zs 5 (length cs) ∙ take_back cs ys in
     record-back xs 0x50 t h rest (5 + length cs) (RP t cs) (project_at bs (length xs) (length cs))
     (simp length-append (omega arith))
-    (project-back bs (length xs) t cs (table_back xs 0x50 t h rest) c i j)
+    (project_back bs (length xs) t cs (table_back xs 0x50 t h rest) c i j)
     (ap (λ n. sized bs (length xs) (5 + n) (project_at bs (length xs) n)) b)
     ∙ ap (λ n. gives (RP t cs, length xs + n)) (omega arith)
 
-number-back :
+number_back :
     (bs : List ℕ) (at t p : ℕ) (ks : List ℕ) → word bs (at + 2) 2 ≡ t → byte_at bs (at + 4) ≡ p →
     columns_at bs (at + 6) (length ks) ≡ ks → 1 ≤ length ks → length ks ≤ 2 →
     number_at bs at (length ks) ≡ gives (RN t p ks)
 unfolding number_at provided
-number-back bs at t p ks a b c i j = rw (le-leb 1 (length ks) i, le-leb (length ks) 2 j, a, b, c)
+number_back bs at t p ks a b c i j = rw (le-leb 1 (length ks) i, le-leb (length ks) 2 j, a, b, c)
 
 back_RN : (t p : ℕ) (ks : List ℕ) → t < 65536 → 1 ≤ length ks → length ks ≤ 2 → ReadsBack (RN t p ks)
 unfolding operator_bytes bytes_of operator_of columns_at
@@ -284,7 +284,7 @@ back_RN t p ks h i j xs ys =
     let c : columns_at bs (length xs + 6) (length ks) ≡ ks = columns_at_lem xs zs 6 (length ks) ∙ take_back ks ys in
     record-back xs 0x4E t h rest (6 + length ks) (RN t p ks) (number_at bs (length xs) (length ks))
     (simp length-append (omega arith))
-    (number-back bs (length xs) t p ks (table_back xs 0x4E t h rest) (byte_at_lem xs zs 4) c i j)
+    (number_back bs (length xs) t p ks (table_back xs 0x4E t h rest) (byte_at_lem xs zs 4) c i j)
     (ap (λ n. sized bs (length xs) (6 + n) (number_at bs (length xs) n)) b)
     ∙ ap (λ n. gives (RN t p ks, length xs + n)) (omega arith)
 
@@ -349,7 +349,7 @@ back_RX t x y h k xs ys =
 
 pub writable_back : (o : Op) → Writable o → ReadsBack o
 unfolding Writable
-writable_back RT w = back-RT
+writable_back RT w = back_RT
 writable_back (RA t z) w = back_RA t z w.0 w.1
 writable_back (RP t cs) w = back_RP t cs w.0 w.1 w.2
 writable_back (RU t u) w = back_RU t u w.0 w.1
@@ -366,10 +366,10 @@ writable_back (RX t x y) w = back_RX t x y w.0 w.1
 writable_back (RO t k) w = back_RO t k w.0 w.1 w.2
 
 -- the bytes of an operator read back as it, wherever they stand
-pub operator-back :
+pub operator_back :
     (o : Op) (xs ys : List ℕ) → Writable o →
     operator_at (xs ++ operator_bytes o ++ ys) (length xs) ≡ gives (o, length xs + length (operator_bytes o))
-operator-back o xs ys w = rw append_assoc (writable_back o w xs ys)
+operator_back o xs ys w = rw append_assoc (writable_back o w xs ys)
 
 -- every byte of a writable operator is a byte
 

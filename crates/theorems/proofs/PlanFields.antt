@@ -91,20 +91,20 @@ module _ (ws : List ℕ) (hw : Every WidthFits ws) (few : length ws ≤ 65536) w
       let (v, p, q) = attempt_gives (table_width ws t) f w e in
       (v, table_gives t v p, q)
 
-  two-tables :
+  two_tables :
       (t u w : ℕ) (f : ℕ → ℕ → Attempt ℕ) → attempt (table_width ws t) (λ v. attempt (table_width ws u) (f v)) ≡ gives w →
       (v x : ℕ) × Known t v × Known u x × (f v x ≡ gives w)
-  two-tables t u w f e =
+  two_tables t u w f e =
       let (v, k, p) = one_table t w (λ v. attempt (table_width ws u) (f v)) e in
       let (x, m, q) = one_table u w (f v) p in
       (v, x, k, m, q)
 
-  two-equal :
+  two_equal :
       (t u w : ℕ) →
       attempt (table_width ws t) (λ w. attempt (table_width ws u) (λ v. provided (eqb w v) (gives w))) ≡ gives w →
       Known t w × (u < 65536)
-  two-equal t u w e =
-      let (v, x, k, m, q) = two-tables t u w (λ w v. provided (eqb w v) (gives w)) e in
+  two_equal t u w e =
+      let (v, x, k, m, q) = two_tables t u w (λ w v. provided (eqb w v) (gives w)) e in
       let (p, r) = provided_gives (eqb v x) (gives v) w q in
       (record { small = k.small; width = same_width k.width r }, m.small)
 
@@ -131,16 +131,16 @@ module _ (ws : List ℕ) (hw : Every WidthFits ws) (few : length ws ≤ 65536) w
         width = up_to6_gives (length cs) w h r;
       }
   checked (RU t u) w h e =
-      let (k, m) = two-equal t u w e in
+      let (k, m) = two_equal t u w e in
       record { writable = (k.small, m); width = k.width }
   checked (RD t u) w h e =
-      let (k, m) = two-equal t u w e in
+      let (k, m) = two_equal t u w e in
       record { writable = (k.small, m); width = k.width }
   checked (RS t c) w h e =
       let (v, k, m, q) = one_column t c w (λ v. gives v) e in
       record { writable = (k.small, m); width = same_width k.width q }
   checked (RJ t c u d) w h e =
-      let (v, x, k, m, q) = two-tables t u w (λ w v. provided (ltb c w && ltb d v) (up_to6 (w + v))) e in
+      let (v, x, k, m, q) = two_tables t u w (λ w v. provided (ltb c w && ltb d v) (up_to6 (w + v))) e in
       let (p, r) = provided_gives (ltb c v && ltb d x) (up_to6 (v + x)) w q in
       let (a, b) = both_true (ltb c v) (ltb d x) p in
       record {
@@ -179,16 +179,16 @@ module _ (ws : List ℕ) (hw : Every WidthFits ws) (few : length ws ≤ 65536) w
       let (v, m, q) = one_table t w (λ w. up_to6 (w + 1)) e in
       record { writable = (m.small, h.0, h.1); width = more v w q }
 
-pub widths-checked :
+pub widths_checked :
     (os : List Op) (ws us : List ℕ) → Every WidthFits ws → length ws + length os ≤ 65536 → Every Own os →
     widths ws os ≡ gives us → Every Writable os × Every WidthFits us
 unfolding widths Every
-widths-checked [] ws us hw few h e = (tt, subst (Every WidthFits) (let p : ws ≡ us = cc in p) hw)
-widths-checked (o ∷ os) ws us hw few h e =
+widths_checked [] ws us hw few h e = (tt, subst (Every WidthFits) (let p : ws ≡ us = cc in p) hw)
+widths_checked (o ∷ os) ws us hw few h e =
     let (w, p, q) = attempt_gives (width_of ws o) (λ w. widths (ws ++ (w ∷ [])) os) us e in
     let c = checked ws hw (omega arith) o w h.0 p in
     let more = every_append WidthFits ws (w ∷ []) hw (c.width, tt) in
-    let (a, b) = widths-checked os (ws ++ (w ∷ [])) us more (simp length-append (omega arith)) h.1 q in
+    let (a, b) = widths_checked os (ws ++ (w ∷ [])) us more (simp length-append (omega arith)) h.1 q in
     ((c.writable, a), b)
 
 -- The fields of a query's literals, roots and names
@@ -349,5 +349,5 @@ plan_own q h =
 pub plan_sound : (q : Query) → Closed q [] → Fields q → length (plan q) ≤ 65536 → PlanSound (plan q)
 plan_sound q c h few =
     let (ws, e) = plan_widths q c in
-    let (a, b) = widths-checked (plan q) [] (ws ++ (3 ∷ [])) (unfold Every in tt) (omega arith) (plan_own q h) e in
+    let (a, b) = widths_checked (plan q) [] (ws ++ (3 ∷ [])) (unfold Every in tt) (omega arith) (plan_own q h) e in
     record { front = ws; sound = e; each = b; writable = a }

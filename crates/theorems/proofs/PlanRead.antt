@@ -2,8 +2,8 @@
 --     RecordFields r      the fields of a record that is read: a plain cell, fragment 1 to 255, variable 0 to 7, a
 --                         two-byte name
 --     query_accepted      a query that is read from bytes is accepted
---     plan-back           a sound plan of at most 512 writable operators reads back as they stand
---     query-plan-back     so is the plan of a query that is read from bytes, if it has at most 512 operators
+--     plan_back           a sound plan of at most 512 writable operators reads back as they stand
+--     query_plan_back     so is the plan of a query that is read from bytes, if it has at most 512 operators
 --     translated          where the translator gives n operators and m bytes, the first m lent bytes are that plan's
 use Prim.Native.Nat.{ℕ, zero, suc, ◌+◌, ◌*◌, ◌-◌, ◌^◌, ◌≤◌, ◌<◌}
 use mathlib.Core.Path.{◌≡◌, refl, sym, ◌∙◌, ap, ap₂, subst}
@@ -45,7 +45,7 @@ use Rattle.theorems.specs.PlanWidths.{Every, widths}
 use Rattle.laws.proofs.Filters.{map_append}
 use Rattle.codes.proofs.Numbers.{name_fits}
 use Rattle.theorems.proofs.Ranges.{variable_below, fragment_within}
-use Rattle.theorems.proofs.PlanSteps.{from_end, from_on, placed-is}
+use Rattle.theorems.proofs.PlanSteps.{from_end, from_on, placed_is}
 use Rattle.theorems.proofs.PlanFields.{plan_sound}
 use Rattle.theorems.specs.PlanFields.{Writable, Fields}
 use Rattle.theorems.specs.PlanRead.{ClosedFields, widths_of, places, PlanBack, TranslatedPlan}
@@ -86,10 +86,10 @@ given_provided :
     {A : Type 0} (P : A → Type 0) (t : Bool) (a : Attempt A) → (t ≡ true → WhereGiven P a) → WhereGiven P (provided t a)
 given_provided P t a h x e = let (p, q) = provided_gives t a x e in h p x q
 
-given-attempt :
+given_attempt :
     {A B : Type 0} (P : B → Type 0) (a : Attempt A) (f : A → Attempt B) → ((x : A) → a ≡ gives x → WhereGiven P (f x)) →
     WhereGiven P (attempt a f)
-given-attempt P a f h y e = let (x, p, q) = attempt_gives a f y e in h x p y q
+given_attempt P a f h y e = let (x, p, q) = attempt_gives a f y e in h x p y q
 
 -- bytes
 word_small : (bs : List ℕ) (at n : ℕ) → ((i : ℕ) → byte_at bs i < 256) → word bs at n < 256 ^ n
@@ -130,7 +130,7 @@ module _ (bs : List ℕ) (at : ℕ) (h : (i : ℕ) → byte_at bs i < 256) where
   sized_fields : (n : ℕ) (a : Attempt Record) → WhereGiven RecordFields a → WhereGiven First (sized bs at n a)
   unfolding sized
   sized_fields n a g =
-      given_provided First (fits bs at n) _ (λ e. given-attempt First a _ (λ r p. given_one First (r, at + n) (g r p)))
+      given_provided First (fits bs at n) _ (λ e. given_attempt First a _ (λ r p. given_one First (r, at + n) (g r p)))
 
   plain : (n : ℕ) (r : Record) → RecordFields r → WhereGiven First (sized bs at n (gives r))
   plain n r g = sized_fields n (gives r) (given_one RecordFields r g)
@@ -140,18 +140,18 @@ module _ (bs : List ℕ) (at : ℕ) (h : (i : ℕ) → byte_at bs i < 256) where
       WhereGiven (λ x. RecordFields (f x)) a → WhereGiven First (sized bs at n (attempt a (λ x. gives (f x))))
   field n a f g =
       sized_fields n (attempt a (λ x. gives (f x)))
-      (given-attempt RecordFields a (λ x. gives (f x)) (λ x p. given_one RecordFields (f x) (g x p)))
+      (given_attempt RecordFields a (λ x. gives (f x)) (λ x p. given_one RecordFields (f x) (g x p)))
 
-  step-fields :
+  step_fields :
       (a : Attempt Axis) (t : ℕ) →
       WhereGiven First
       (sized bs at 6 (attempt a (λ x. attempt (test_of t (word bs (at + 4) 2)) (λ y. gives (step x y)))))
   unfolding RecordFields
-  step-fields a t =
+  step_fields a t =
       sized_fields 6 _
-      (given-attempt RecordFields a _
+      (given_attempt RecordFields a _
       (λ x p.
-      given-attempt RecordFields (test_of t (word bs (at + 4) 2)) _
+      given_attempt RecordFields (test_of t (word bs (at + 4) 2)) _
       (λ y q.
       given_one RecordFields (step x y) ((name_fits t (word bs (at + 4) 2) (word_small bs (at + 4) 2 h)).given y q))))
 
@@ -171,7 +171,7 @@ module _ (bs : List ℕ) (at : ℕ) (h : (i : ℕ) → byte_at bs i < 256) where
       (given_cond First (eqb mark mark_qo) _ _ (λ e. field 3 (function_of b) function (λ f e. tt))
       (given_cond First (eqb mark mark_qc) _ _ (λ e. plain 2 counting tt)
       (given_cond First (eqb mark mark_qd) _ _ (λ e. plain 2 values tt)
-      (given_cond First (eqb mark mark_qx) _ _ (λ e. step-fields (axis_of b) (byte_at bs (at + 3)))
+      (given_cond First (eqb mark mark_qx) _ _ (λ e. step_fields (axis_of b) (byte_at bs (at + 3)))
       (given_none First)))))))))))))
 
 -- An accepted query is closed, and its fields are in their ranges
@@ -209,30 +209,30 @@ leaf_tree : (P : Query → Type 0) (q : Query) (next n : ℕ) → P q → Trees 
 unfolding leaf
 leaf_tree P q next n h r e = subst (λ (x : Read). P x.tree) (reads_same _ r e) h
 
-one-tree :
+one_tree :
     (P Q : Query → Type 0) (f : Query → Query) (a : Reading Read) →
     ((q : Query) → P q → Q (f q)) → Trees P a → Trees Q (one f a)
 unfolding one
-one-tree P Q f a g h r e =
+one_tree P Q f a g h r e =
     let (x, p, q) = reading_reads a (λ x. leaf (f x.tree) x.next x.records) r e in
     leaf_tree Q (f x.tree) x.next x.records (g x.tree (h x p)) r q
 
-two-tree :
+two_tree :
     (P Q R : Query → Type 0) (f : Query → Query → Query) (a : Reading Read) (b : ℕ → ℕ → Reading Read) →
     ((p q : Query) → P p → Q q → R (f p q)) → Trees P a → ((n at : ℕ) → Trees Q (b n at)) → Trees R (two f a b)
 unfolding two
-two-tree P Q R f a b g h k r e =
+two_tree P Q R f a b g h k r e =
     let (x, p, q) = reading_reads a (λ x. one (f x.tree) (b x.records x.next)) r e in
-    one-tree Q R (f x.tree) (b x.records x.next) (λ y. g x.tree y (h x p)) (k x.records x.next) r q
+    one_tree Q R (f x.tree) (b x.records x.next) (λ y. g x.tree y (h x p)) (k x.records x.next) r q
 
-three-tree :
+three_tree :
     (P Q R S : Query → Type 0) (f : Query → Query → Query → Query) (c : Reading Read) (a b : ℕ → ℕ → Reading Read) →
     ((o p q : Query) → P o → Q p → R q → S (f o p q)) →
     Trees P c → ((n at : ℕ) → Trees Q (a n at)) → ((n at : ℕ) → Trees R (b n at)) → Trees S (three f c a b)
 unfolding three
-three-tree P Q R S f c a b g h k m r e =
+three_tree P Q R S f c a b g h k m r e =
     let (x, p, q) = reading_reads c (λ x. two (f x.tree) (a x.records x.next) b) r e in
-    two-tree Q R S (f x.tree) (a x.records x.next) b
+    two_tree Q R S (f x.tree) (a x.records x.next) b
     (λ y z. g x.tree y z (h x p)) (k x.records x.next) m r q
 
 abbrev ReadIn : List ℕ → Query → Type 0
@@ -253,54 +253,54 @@ module _ (rd : Operand) (ih : (vs : List ℕ) (n at : ℕ)
   operands_accepted (root k) h = leaf_tree (ReadIn vs) (QR at k) next n (record { closed = tt; fields = h })
   operands_accepted (variable v) h = variable_accepted v h
   operands_accepted sequence h =
-      two-tree (ReadIn vs) (ReadIn vs) (ReadIn vs) (QS at) (rd vs n next) (rd vs)
+      two_tree (ReadIn vs) (ReadIn vs) (ReadIn vs) (QS at) (rd vs n next) (rd vs)
       (λ p q x y. record { closed = (x.closed, y.closed); fields = (x.fields, y.fields) })
       (ih vs n next) (ih vs)
   operands_accepted (letting v) h =
-      two-tree (ReadIn vs) (ReadIn (v ∷ vs)) (ReadIn vs) (QT at v) (rd vs n next) (rd (v ∷ vs))
+      two_tree (ReadIn vs) (ReadIn (v ∷ vs)) (ReadIn vs) (QT at v) (rd vs n next) (rd (v ∷ vs))
       (λ p q x y. record { closed = (h, x.closed, y.closed); fields = (x.fields, y.fields) })
       (ih vs n next) (ih (v ∷ vs))
   operands_accepted (for v) h =
-      two-tree (ReadIn vs) (ReadIn (v ∷ vs)) (ReadIn vs) (QF at v) (rd vs n next) (rd (v ∷ vs))
+      two_tree (ReadIn vs) (ReadIn (v ∷ vs)) (ReadIn vs) (QF at v) (rd vs n next) (rd (v ∷ vs))
       (λ p q x y. record { closed = (h, x.closed, y.closed); fields = (x.fields, y.fields) })
       (ih vs n next) (ih (v ∷ vs))
   operands_accepted choice h =
-      three-tree (ReadIn vs) (ReadIn vs) (ReadIn vs) (ReadIn vs) (QI at) (rd vs n next) (rd vs) (rd vs)
+      three_tree (ReadIn vs) (ReadIn vs) (ReadIn vs) (ReadIn vs) (QI at) (rd vs n next) (rd vs) (rd vs)
       (λ o p q x y z.
       record { closed = (x.closed, y.closed, z.closed); fields = (x.fields, y.fields, z.fields) })
       (ih vs n next) (ih vs) (ih vs)
   operands_accepted (function f) h =
-      two-tree (ReadIn vs) (ReadIn vs) (ReadIn vs) (QO at f) (rd vs n next) (rd vs)
+      two_tree (ReadIn vs) (ReadIn vs) (ReadIn vs) (QO at f) (rd vs n next) (rd vs)
       (λ p q x y. record { closed = (x.closed, y.closed); fields = (x.fields, y.fields) })
       (ih vs n next) (ih vs)
   operands_accepted counting h =
-      one-tree (ReadIn vs) (ReadIn vs) (QC at) (rd vs n next)
+      one_tree (ReadIn vs) (ReadIn vs) (QC at) (rd vs n next)
       (λ q x. record { closed = x.closed; fields = x.fields })
       (ih vs n next)
   operands_accepted values h =
-      one-tree (ReadIn vs) (ReadIn vs) (QD at) (rd vs n next)
+      one_tree (ReadIn vs) (ReadIn vs) (QD at) (rd vs n next)
       (λ q x. record { closed = x.closed; fields = x.fields })
       (ih vs n next)
   operands_accepted (step x t) h =
-      one-tree (ReadIn vs) (ReadIn vs) (QX at x t) (rd vs n next)
+      one_tree (ReadIn vs) (ReadIn vs) (QX at x t) (rd vs n next)
       (λ q y. record { closed = y.closed; fields = (h, y.fields) })
       (ih vs n next)
 
-pub read-accepted :
+pub read_accepted :
     (d : ℕ) (bs : List ℕ) → ((i : ℕ) → byte_at bs i < 256) →
     (vs : List ℕ) (n at : ℕ) (r : Read) → read d bs vs n at ≡ reads r → ClosedFields r.tree vs
 unfolding read record_at
-read-accepted zero bs h vs n at r e =
+read_accepted zero bs h vs n at r e =
     let (x, p, q) = reading_reads (record_at bs at) (λ x. refuses 2 at) r e in
     refuses_reads 2 at r q
-read-accepted (suc d) bs h vs n at r e =
+read_accepted (suc d) bs h vs n at r e =
     let go : Record × ℕ → Reading Read =
     λ x. unless (ltb n 128) 2 at (operands (read d bs) vs at (suc n) x.1 x.0)
     in
     let (x, p, q) = reading_reads (record_at bs at) go r e in
     let (t, s) = unless_reads (ltb n 128) 2 at (operands (read d bs) vs at (suc n) x.1 x.0) r q in
     let k = record-fields bs at h (word bs at 2) x (refusing_reads 1 at (record_of bs at (word bs at 2)) x p) in
-    operands_accepted (read d bs) (read-accepted d bs h) vs at (suc n) x.1 x.0 k r s
+    operands_accepted (read d bs) (read_accepted d bs h) vs at (suc n) x.1 x.0 k r s
 
 pub query_accepted :
     (bs : List ℕ) → ((i : ℕ) → byte_at bs i < 256) → (r : Read) → query_read bs ≡ reads r → ClosedFields r.tree []
@@ -309,16 +309,16 @@ query_accepted bs h r e =
     let go : Read → Reading Read = λ x. unless (eqb x.next (length bs)) 1 x.next (reads x) in
     let (x, p, q) = reading_reads (read 32 bs [] 0 0) go r e in
     let (t, s) = unless_reads (eqb x.next (length bs)) 1 x.next (reads x) r q in
-    read-accepted 32 bs h [] 0 0 r (p ∙ s)
+    read_accepted 32 bs h [] 0 0 r (p ∙ s)
 
 -- A plan read back
 
-pub places-ops :
+pub places_ops :
     (at : ℕ) (os : List Op) (ws : List ℕ) → length ws ≡ length os → map (λ (p : Placed). p.op) (places at os ws) ≡ os
 unfolding places
-places-ops at [] ws e = refl
-places-ops at (o ∷ os) [] e = absurd (omega arith)
-places-ops at (o ∷ os) (w ∷ ws) e = ap (λ xs. o ∷ xs) (places-ops (at + length (operator_bytes o)) os ws (omega arith))
+places_ops at [] ws e = refl
+places_ops at (o ∷ os) [] e = absurd (omega arith)
+places_ops at (o ∷ os) (w ∷ ws) e = ap (λ xs. o ∷ xs) (places_ops (at + length (operator_bytes o)) os ws (omega arith))
 
 pub places_widths : (at : ℕ) (os : List Op) (ws : List ℕ) → length ws ≡ length os → widths_of (places at os ws) ≡ ws
 unfolding places
@@ -329,15 +329,15 @@ places_widths at (o ∷ os) (w ∷ ws) e =
     ap (λ xs. w ∷ xs) (places_widths (at + length (operator_bytes o)) os ws (omega arith))
 
 -- operator i stands after the bytes of the operators before it
-pub places-starts :
+pub places_starts :
     (at : ℕ) (os : List Op) (ws : List ℕ) (i : ℕ) → length ws ≡ length os → i < length os →
     get_or (map (λ (p : Placed). p.at) (places at os ws)) i 0 ≡ at + length (written (take i os))
 unfolding places written gather
-places-starts at [] ws i e h = absurd (omega arith)
-places-starts at (o ∷ os) [] i e h = absurd (omega arith)
-places-starts at (o ∷ os) (w ∷ ws) zero e h = omega arith
-places-starts at (o ∷ os) (w ∷ ws) (suc i) e h =
-    places-starts (at + length (operator_bytes o)) os ws i (omega arith) (omega arith) ∙ simp length-append (omega arith)
+places_starts at [] ws i e h = absurd (omega arith)
+places_starts at (o ∷ os) [] i e h = absurd (omega arith)
+places_starts at (o ∷ os) (w ∷ ws) zero e h = omega arith
+places_starts at (o ∷ os) (w ∷ ws) (suc i) e h =
+    places_starts (at + length (operator_bytes o)) os ws i (omega arith) (omega arith) ∙ simp length-append (omega arith)
 
 -- no operator is without bytes
 operator_bytes_lem : (o : Op) → 0 < length (operator_bytes o)
@@ -367,7 +367,7 @@ widths_front (o ∷ os) ws us e =
     let (vs, r) = widths_front os (ws ++ (w ∷ [])) us q in
     (w ∷ vs, r ∙ append_assoc ws (w ∷ []) vs)
 
-widths-next :
+widths_next :
     (o : Op) (os : List Op) (ws vs : List ℕ) → widths ws (o ∷ os) ≡ gives (ws ++ vs) →
     (w : ℕ)
     × (us : List ℕ)
@@ -375,7 +375,7 @@ widths-next :
     × (width_of ws o ≡ gives w)
     × (widths (ws ++ (w ∷ [])) os ≡ gives (ws ++ (w ∷ []) ++ us))
 unfolding widths
-widths-next o os ws vs e =
+widths_next o os ws vs e =
     let (w, p, q) = attempt_gives (width_of ws o) (λ w. widths (ws ++ (w ∷ [])) os) (ws ++ vs) e in
     let (us, r) = widths_front os (ws ++ (w ∷ [])) (ws ++ vs) q in
     (w, us, append_cancel_left ws vs (w ∷ us) (r ∙ append_assoc ws (w ∷ []) us), p, q ∙ ap gives r)
@@ -397,7 +397,7 @@ module _ (o : Op) (os : List Op) (left : ℕ) (xs : List ℕ) (ps : List Placed)
       let bs : List ℕ = xs ++ (ob ++ written os) in
       let there : length xs < length bs = simp length-append (omega (arith, operator_bytes_lem o)) in
       let next : ℕ = length xs + length ob in
-      let one = placed-is bs (widths_of ps) (length xs) next o w (writable_back o k xs (written os)) q in
+      let one = placed_is bs (widths_of ps) (length xs) next o w (writable_back o k xs (written os)) q in
       from_on bs ps (length xs) there left next placed one
       ∙ ap₂ (λ b n. plan_from left b (ps ++ (placed ∷ [])) n)
       (sym (append_assoc xs ob (written os)))
@@ -416,7 +416,7 @@ from_back [] left xs ps vs h k e =
     from_end (xs ++ []) ps (length xs) left (simp append-nil (omega arith)) ∙ ap ended (sym (append-nil ps))
 from_back (o ∷ os) zero xs ps vs h k e = absurd (omega arith)
 from_back (o ∷ os) (suc left) xs ps vs h k e =
-    let (w, us, p, q, r) = widths-next o os (widths_of ps) vs e in
+    let (w, us, p, q, r) = widths_next o os (widths_of ps) vs e in
     let more : widths_of (ps ++ (placed o os left xs ps w us ∷ [])) ≡ widths_of ps ++ (w ∷ []) = map_append _ ps _ in
     let ih =
     from_back os left (xs ++ operator_bytes o) (ps ++ (placed o os left xs ps w us ∷ [])) us (omega arith) k.1
@@ -440,11 +440,11 @@ ended_reads [] front e = absurd (omega (arith, simp length-append at (ap length 
 ended_reads (p ∷ ps) front e = rw (eq-eqb (last_of p ps).width 3 (last_width p ps front 3 e))
 
 -- a sound plan of writable operators, at most 512 of them, reads back with its offsets and widths
-pub plan-back :
+pub plan_back :
     (os : List Op) (front : List ℕ) → length os ≤ 512 → Every Writable os → widths [] os ≡ gives (front ++ (3 ∷ [])) →
     plan_read (written os) ≡ reads (places 0 os (front ++ (3 ∷ [])))
 unfolding plan_read
-plan-back os front h k e =
+plan_back os front h k e =
     let ws : List ℕ = front ++ (3 ∷ []) in
     from_back os 512 [] [] ws h k e
     ∙ ended_reads (places 0 os ws) front (places_widths 0 os ws (omega (arith, widths_count os [] ws e)))
@@ -461,10 +461,10 @@ written_length [] h = lit≤ tt
 written_length (o ∷ os) h =
     simp length-append (omega (arith, operator_length o h.0, written_length os h.1))
 
-pub query-plan-back :
+pub query_plan_back :
     (bs : List ℕ) (r : Read) → ((i : ℕ) → byte_at bs i < 256) → query_read bs ≡ reads r → length (plan r.tree) ≤ 512 →
     (ps : List Placed) × PlanBack (plan r.tree) ps
-query-plan-back bs r h e few =
+query_plan_back bs r h e few =
     let a = query_accepted bs h r e in
     let s = plan_sound r.tree a.closed a.fields (omega arith) in
     let os : List Op = plan r.tree in
@@ -477,20 +477,20 @@ query-plan-back bs r h e few =
         each = s.each;
         bytes = written_small os s.writable;
         room = omega (arith, written_length os s.writable);
-        back = plan-back os s.front few s.writable s.sound;
-        ops = places-ops 0 os ws (omega (arith, widths_count os [] ws s.sound));
+        back = plan_back os s.front few s.writable s.sound;
+        ops = places_ops 0 os ws (omega (arith, widths_count os [] ws s.sound));
         placed = refl;
       },
     )
 
 -- What the translator leaves in the lent bytes
 
-outcome-reads :
+outcome_reads :
     (lent n m : ℕ) (a : Reading (List Op)) → (translate_outcome lent a).answer ≡ Calls.gives (n ∷ m ∷ []) →
     (os : List Op) × (a ≡ reads os) × (n ≡ length os) × (m ≡ length (written os))
 unfolding translate_outcome refusal
-outcome-reads lent n m (refuses k p) e = let z : ◌≡◌ {A = ℕ} 0 1 = cc in absurd (omega arith)
-outcome-reads lent n m (reads os) e =
+outcome_reads lent n m (refuses k p) e = let z : ◌≡◌ {A = ℕ} 0 1 = cc in absurd (omega arith)
+outcome_reads lent n m (reads os) e =
     let p : length os ≡ n = cc in
     let q : length (written os) ≡ m = cc in
     (os, refl, sym p, sym q)
@@ -511,7 +511,7 @@ pub translated :
     TranslatedPlan query lent n m
 unfolding translate_call translate_outcome
 translated query lent n m e =
-    let (os, p, hn, hm) = outcome-reads lent n m (reading (query_read query) (λ r. plan_of lent r.tree)) e in
+    let (os, p, hn, hm) = outcome_reads lent n m (reading (query_read query) (λ r. plan_of lent r.tree)) e in
     let (r, a, b) = reading_reads (query_read query) (λ r. plan_of lent r.tree) os p in
     let (c, few) = plan_reads lent r.tree os b in
     let left : (translate_call query lent).left ≡ padded 0 lent (written os) =

@@ -2,7 +2,7 @@
 --     from_end                          at the end of the bytes
 --     from_none                         before it, where no more operators are allowed
 --     from_one, from_bad, from_on       before it: one operator, which is unsound, or is sound and placed
---     placed-is                         an operator that is read and suits the tables before it is placed
+--     placed_is                         an operator that is read and suits the tables before it is placed
 use Prim.Native.Nat.{ℕ, zero, suc, ◌≤◌, ◌<◌}
 use mathlib.Core.Path.{◌≡◌, ◌∙◌, ap}
 use mathlib.Core.Bool.{Bool, true, false}
@@ -54,8 +54,8 @@ module _ (bs : List ℕ) (done : List Placed) (at : ℕ) where
     unfolding reading refusing
     from_on left next p e = from_one left ∙ rw e
 
-pub placed-is :
+pub placed_is :
     (bs ws : List ℕ) (at next : ℕ) (o : Op) (w : ℕ) → operator_at bs at ≡ gives (o, next) → width_of ws o ≡ gives w →
     placed_at bs ws at ≡ gives (record { at = at; op = o; width = w }, next)
 unfolding placed_at attempt
-placed-is bs ws at next o w p q = rw (p, q)
+placed_is bs ws at next o w p q = rw (p, q)

@@ -1,5 +1,5 @@
 -- A translated plan is sound (document 01, 'Plan operators' and 'Translation').
---     tr-sound          under a loop table of width 1 and variables of width 3 each rule is sound
+--     tr_sound          under a loop table of width 1 and variables of width 3 each rule is sound
 --     plan_widths       the widths of a whole plan, the last of them 3
 use Prim.Native.Nat.{ℕ, zero, suc, ◌+◌, ◌<◌}
 use mathlib.Core.Path.{◌≡◌, refl, sym, ◌∙◌, ap, subst}
@@ -72,11 +72,11 @@ unfolding attempt
 attempt_gives fails f b e = let z : ◌≡◌ {A = ℕ} 0 1 = cc in absurd (omega arith)
 attempt_gives (gives x) f b e = (x, refl, e)
 
-pub attempt-of :
+pub attempt_of :
     {A B : Type 0} (a : Attempt A) {x : A} (f : A → Attempt B) {b : Attempt B} → a ≡ gives x → f x ≡ b →
     attempt a f ≡ b
 unfolding attempt
-attempt-of a f p q = rw p q
+attempt_of a f p q = rw p q
 
 pub provided_gives :
     {A : Type 0} (b : Bool) (a : Attempt A) (x : A) → provided b a ≡ gives x → (b ≡ true) × (a ≡ gives x)
@@ -97,7 +97,7 @@ table_wide {ws} {t} h = rw (lt-ltb t (length ws) h.there, h.is)
 module _ {ws : List ℕ} where
   -- what a table's width, or two tables' widths, come to
   one : {t w v : ℕ} (f : ℕ → Attempt ℕ) → TableWide ws t w → f w ≡ gives v → attempt (table_width ws t) f ≡ gives v
-  one {t} f h p = attempt-of (table_width ws t) f (table_wide h) p
+  one {t} f h p = attempt_of (table_width ws t) f (table_wide h) p
 
   two :
       {t u w v x : ℕ} (f : ℕ → ℕ → Attempt ℕ) →
@@ -109,11 +109,11 @@ module _ {ws : List ℕ} where
   unfolding width_of up_to6 provided
   fit_RA h p = record { is = one (λ w. up_to6 (w + 1)) h (rw p) }
 
-  fit-RP :
+  fit_RP :
       {t w : ℕ} {cs : List ℕ} → TableWide ws t w → columns w cs ≡ true → leb (length cs) 6 ≡ true →
       Fits ws (RP t cs) (length cs)
   unfolding width_of up_to6 provided
-  fit-RP {cs} h p q = record { is = one (λ w. provided (columns w cs) (up_to6 (length cs))) h (rw (p, q)) }
+  fit_RP {cs} h p q = record { is = one (λ w. provided (columns w cs) (up_to6 (length cs))) h (rw (p, q)) }
 
   fit_RU : {t u w : ℕ} → TableWide ws t w → TableWide ws u w → Fits ws (RU t u) w
   unfolding width_of provided
@@ -127,25 +127,25 @@ module _ {ws : List ℕ} where
   unfolding width_of provided
   fit_RS {c} h p = record { is = one (λ w. provided (ltb c w) (gives w)) h (rw p) }
 
-  fit-RJ :
+  fit_RJ :
       {t u w v c d : ℕ} → TableWide ws t w → TableWide ws u v → ltb c w && ltb d v ≡ true → leb (w + v) 6 ≡ true →
       Fits ws (RJ t c u d) (w + v)
   unfolding width_of up_to6 provided
-  fit-RJ {c} {d} h k p q = record { is = two (λ w v. provided (ltb c w && ltb d v) (up_to6 (w + v))) h k (rw (p, q)) }
+  fit_RJ {c} {d} h k p q = record { is = two (λ w v. provided (ltb c w && ltb d v) (up_to6 (w + v))) h k (rw (p, q)) }
 
-  fit-RN :
+  fit_RN :
       {t p w : ℕ} {ks : List ℕ} → TableWide ws t w → (eqb p 255 || ltb p w) && columns w ks ≡ true
       → leb (w + 1) 6 ≡ true →
       Fits ws (RN t p ks) (w + 1)
   unfolding width_of up_to6 provided
-  fit-RN {p} {ks} h a b =
+  fit_RN {p} {ks} h a b =
       record { is = one (λ w. provided ((eqb p 255 || ltb p w) && columns w ks) (up_to6 (w + 1))) h (rw (a, b)) }
 
-  fit-RF :
+  fit_RF :
       {t w c d : ℕ} {f : Function} → TableWide ws t w → ltb c w && ltb d w ≡ true → leb (w + 1) 6 ≡ true →
       Fits ws (RF t f c d) (w + 1)
   unfolding width_of up_to6 provided
-  fit-RF {c} {d} h p q = record { is = one (λ w. provided (ltb c w && ltb d w) (up_to6 (w + 1))) h (rw (p, q)) }
+  fit_RF {c} {d} h p q = record { is = one (λ w. provided (ltb c w && ltb d w) (up_to6 (w + 1))) h (rw (p, q)) }
 
   fit_RV : {t w c : ℕ} → TableWide ws t w → ltb c w ≡ true → leb (w + 1) 6 ≡ true → Fits ws (RV t c) (w + 1)
   unfolding width_of up_to6 provided
@@ -199,7 +199,7 @@ unfolding widths
 widths_then [] ps ws us vs e f = let p : ws ≡ us = cc in rw p f
 widths_then (o ∷ os) ps ws us vs e f =
     let (w, p, q) = attempt_gives (width_of ws o) (λ w. widths (ws ++ (w ∷ [])) os) us e in
-    attempt-of (width_of ws o) (λ w. widths (ws ++ (w ∷ [])) (os ++ ps)) p (widths_then os ps (ws ++ (w ∷ [])) us vs q f)
+    attempt_of (width_of ws o) (λ w. widths (ws ++ (w ∷ [])) (os ++ ps)) p (widths_then os ps (ws ++ (w ∷ [])) us vs q f)
 
 kept : {ws us : List ℕ} {os : List Op} {t w : ℕ} → EndsWide ws os us → TableWide ws t w → TableWide us t w
 kept {ws} {us} {os} x h = widths_kept os ws us x.is h
@@ -240,7 +240,7 @@ module _ (ws : List ℕ) {n : ℕ} (e : n ≡ length ws) where
   unfolding widths
   step {vs} {o} {os} p q =
       let rest : ℕ → Attempt (List ℕ) = λ w. widths ((ws ++ vs) ++ (w ∷ [])) os in
-      record { is = attempt-of (width_of (ws ++ vs) o) rest p.is (rw append_assoc q.is) }
+      record { is = attempt_of (width_of (ws ++ vs) o) rest p.is (rw append_assoc q.is) }
 
   end : {us : List ℕ} → StepsWide ws us [] us
   unfolding widths
@@ -274,27 +274,27 @@ module _ (ws : List ℕ) {n : ℕ} (e : n ≡ length ws) where
       (step (fit_RA (old _ ha) refl)
       (step (fit_RA (old _ hb) refl)
       (step (fit_RU (first 4 _) (new _ 1 tt))
-      (step (fit-RN (new _ 2 tt) refl refl)
-      (step (fit-RP (new _ 3 tt) refl refl) end)))))
+      (step (fit_RN (new _ 2 tt) refl refl)
+      (step (fit_RP (new _ 3 tt) refl refl) end)))))
       (new _ 4 tt)
 
   ends_F : {a : ℕ} → TableWide ws a 3 → EndsWide ws (head_f n a) (ws ++ (4 ∷ 5 ∷ 3 ∷ 1 ∷ 2 ∷ []))
   unfolding head_f columns all
   ends_F ha =
       steps
-      (step (fit-RN (old _ ha) refl refl)
+      (step (fit_RN (old _ ha) refl refl)
       (step (fit_RA (first _ _) refl)
-      (step (fit-RP (new _ 1 tt) refl refl)
-      (step (fit-RP (first _ _) refl refl)
-      (step (fit-RP (first _ _) refl refl) end)))))
+      (step (fit_RP (new _ 1 tt) refl refl)
+      (step (fit_RP (first _ _) refl refl)
+      (step (fit_RP (first _ _) refl refl) end)))))
 
   sound_F : {b m : ℕ} → TableWide ws b 3 → TableWide ws m 2 → WellMade ws (tail_f n b m)
   unfolding tail_f columns all
   sound_F hb hm =
       made (5 ∷ 6 ∷ 3 ∷ [])
-      (step (fit-RJ (old _ hb) (old _ hm) refl refl)
-      (step (fit-RN (first _ _) refl refl)
-      (step (fit-RP (new _ 1 tt) refl refl) end)))
+      (step (fit_RJ (old _ hb) (old _ hm) refl refl)
+      (step (fit_RN (first _ _) refl refl)
+      (step (fit_RP (new _ 1 tt) refl refl) end)))
       (new _ 2 tt)
 
   ends_I : {l c : ℕ} → TableWide ws l 1 → TableWide ws c 3 → EndsWide ws (head_i n l c) (ws ++ (2 ∷ 2 ∷ 1 ∷ 1 ∷ []))
@@ -303,7 +303,7 @@ module _ (ws : List ℕ) {n : ℕ} (e : n ≡ length ws) where
       steps
       (step (fit_RE (old _ hc))
       (step (fit_RS (first _ _) refl)
-      (step (fit-RP (new _ 1 tt) refl refl)
+      (step (fit_RP (new _ 1 tt) refl refl)
       (step (fit_RD (old _ hl) (new _ 2 tt)) end))))
 
   sound_U : {a b : ℕ} → TableWide ws a 3 → TableWide ws b 3 → WellMade ws (record { ops = RU a b ∷ []; result = n })
@@ -315,10 +315,10 @@ module _ (ws : List ℕ) {n : ℕ} (e : n ≡ length ws) where
       made (3 ∷ 3 ∷ 6 ∷ 4 ∷ 5 ∷ 3 ∷ [])
       (step (fit_RK (old _ ha) refl)
       (step (fit_RK (old _ hb) refl)
-      (step (fit-RJ (first _ _) (new _ 1 tt) refl refl)
-      (step (fit-RP (new _ 2 tt) refl refl)
-      (step (fit-RF (new _ 3 tt) refl refl)
-      (step (fit-RP (new _ 4 tt) refl refl) end))))))
+      (step (fit_RJ (first _ _) (new _ 1 tt) refl refl)
+      (step (fit_RP (new _ 2 tt) refl refl)
+      (step (fit_RF (new _ 3 tt) refl refl)
+      (step (fit_RP (new _ 4 tt) refl refl) end))))))
       (new _ 5 tt)
 
   sound_C : {l a : ℕ} → TableWide ws l 1 → TableWide ws a 3 → WellMade ws (tail_c n l a)
@@ -326,32 +326,32 @@ module _ (ws : List ℕ) {n : ℕ} (e : n ≡ length ws) where
   sound_C hl ha =
       made (2 ∷ 1 ∷ 1 ∷ 2 ∷ 2 ∷ 3 ∷ 3 ∷ [])
       (step (fit_RC (old _ ha) refl)
-      (step (fit-RP (first _ _) refl refl)
+      (step (fit_RP (first _ _) refl refl)
       (step (fit_RD (old _ hl) (new _ 1 tt))
       (step (fit_RA (new _ 2 tt) refl)
       (step (fit_RU (first 2 _) (new _ 3 tt))
       (step (fit_RA (new _ 4 tt) refl)
-      (step (fit-RP (new _ 5 tt) refl refl) end)))))))
+      (step (fit_RP (new _ 5 tt) refl refl) end)))))))
       (new _ 6 tt)
 
   sound_D : {a : ℕ} → TableWide ws a 3 → WellMade ws (tail_d n a)
   unfolding tail_d columns all
   sound_D ha =
-      made (4 ∷ 3 ∷ []) (step (fit_RV (old _ ha) refl refl) (step (fit-RP (first _ _) refl refl) end)) (new _ 1 tt)
+      made (4 ∷ 3 ∷ []) (step (fit_RV (old _ ha) refl refl) (step (fit_RP (first _ _) refl refl) end)) (new _ 1 tt)
 
   sound_X : {a : ℕ} (x : Axis) (y : Test) → TableWide ws a 3 → WellMade ws (tail_x n x y a)
   unfolding tail_x columns all
   sound_X x y ha =
       made (2 ∷ 2 ∷ 3 ∷ 3 ∷ [])
-      (step (fit-RP (old _ ha) refl refl)
+      (step (fit_RP (old _ ha) refl refl)
       (step (fit_RX (first _ _))
-      (step (fit-RN (new _ 1 tt) refl refl)
-      (step (fit-RP (new _ 2 tt) refl refl) end))))
+      (step (fit_RN (new _ 1 tt) refl refl)
+      (step (fit_RP (new _ 2 tt) refl refl) end))))
       (new _ 3 tt)
 
   ends_last : {a : ℕ} → TableWide ws a 3 → EndsWide ws (tail_last n a) (ws ++ (4 ∷ 3 ∷ []))
   unfolding tail_last columns all
-  ends_last ha = steps (step (fit-RN (old _ ha) refl refl) (step (fit-RP (first _ _) refl refl) end))
+  ends_last ha = steps (step (fit_RN (old _ ha) refl refl) (step (fit_RP (first _ _) refl refl) end))
 
 -- Variables
 
@@ -365,18 +365,18 @@ env_kept : {ws us : List ℕ} {os : List Op} {e : Tables} {vs : List ℕ} → En
     → EnvWide us e vs
 env_kept x h = record { wide_at = λ v b. kept x (h.wide_at v b) }
 
-cond-wide :
+cond_wide :
     {ws : List ℕ} {t u w : ℕ} (b : Bool) → (b ≡ true → TableWide ws t w) → (b ≡ false → TableWide ws u w) →
     TableWide ws (cond b t u) w
-cond-wide true f g = f refl
-cond-wide false f g = g refl
+cond_wide true f g = f refl
+cond_wide false f g = g refl
 
-env-hold :
+env_hold :
     {ws : List ℕ} {t : ℕ} {e : Tables} {vs : List ℕ} (v : ℕ) → TableWide ws t 3 → EnvWide ws e vs
     → EnvWide ws (hold v t e) (v ∷ vs)
 unfolding hold
-env-hold {vs} v ht h =
-    record { wide_at = λ u b. cond-wide (eqb u v) (λ p. ht) (λ p. h.wide_at u (bound_inner u v vs p b)) }
+env_hold {vs} v ht h =
+    record { wide_at = λ u b. cond_wide (eqb u v) (λ p. ht) (λ p. h.wide_at u (bound_inner u v vs p b)) }
 
 -- Lifting: each variable is joined with table m, which is i wide, and three columns are projected
 
@@ -391,12 +391,12 @@ module _
     (q : ltb 0 i ≡ true)
     (r : columns (3 + i) (a ∷ b ∷ c ∷ []) ≡ true)
   where
-    lift-one :
+    lift_one :
         (ws : List ℕ) {n t : ℕ} → n ≡ length ws → TableWide ws t 3 → TableWide ws m i →
         EndsWide ws (RJ t 0 m 0 ∷ RP n (a ∷ b ∷ c ∷ []) ∷ []) (ws ++ ((3 + i) ∷ 3 ∷ []))
-    lift-one ws e ht hm =
+    lift_one ws e ht hm =
         steps ws e
-        (step ws e (fit-RJ (old ws e _ ht) (old ws e _ hm) q p) (step ws e (fit-RP (first ws e _ _) r refl) (end ws e)))
+        (step ws e (fit_RJ (old ws e _ ht) (old ws e _ hm) q p) (step ws e (fit_RP (first ws e _ _) r refl) (end ws e)))
 
     lift :
         (us : List ℕ) (ws : List ℕ) (n : ℕ) (e : Tables) → n ≡ length ws → Every (λ u. TableWide ws (e u) 3) us
@@ -405,7 +405,7 @@ module _
     unfolding lifts lifted Every hold
     lift [] ws n e en h hm = record { after = ws; ends = ends_none; held = λ u k. k }
     lift (v ∷ us) ws n e en h hm =
-        let one = lift-one ws en h.0 hm in
+        let one = lift_one ws en h.0 hm in
         let rest =
         lift us (ws ++ ((3 + i) ∷ 3 ∷ [])) (n + 2) e (count one en) (every_map (λ u. kept one) us h.1) (kept one hm)
         in
@@ -413,28 +413,28 @@ module _
           after = rest.after;
           ends = ends_then one rest.ends;
           held =
-              λ u k. cond-wide (eqb u v) (λ _. kept rest.ends (new ws en _ 1 tt)) (λ _. rest.held u (kept one k));
+              λ u k. cond_wide (eqb u v) (λ _. kept rest.ends (new ws en _ 1 tt)) (λ _. rest.held u (kept one k));
         }
 
 -- the variables free in a part are lifted; those that are not lifted keep their tables
 
-env-lifted :
+env_lifted :
     {ws : List ℕ} {e f : Tables} {os : List Op} {vs : List ℕ} (x : LiftedWide ws e os f) → EnvWide ws e vs
     → EnvWide x.after f vs
-env-lifted x h = record { wide_at = λ u b. x.held u (h.wide_at u b) }
+env_lifted x h = record { wide_at = λ u b. x.held u (h.wide_at u b) }
 
-free-wide :
+free_wide :
     {ws : List ℕ} {e : Tables} {vs : List ℕ} (q : Query) → Closed q vs → EnvWide ws e vs →
     Every (λ u. TableWide ws (e u) 3) (free_in q)
 unfolding free_in
-free-wide {ws} {e} {vs} q c h =
+free_wide {ws} {e} {vs} q c h =
     every_filter (λ u. TableWide ws (e u) 3) (λ v. free v q) (λ v f. h.wide_at v (free_bound q vs v c f).0) (below 8)
 
-others-wide :
+others_wide :
     {ws : List ℕ} {e : Tables} {vs : List ℕ} (v : ℕ) (q : Query) → Closed q (v ∷ vs) → EnvWide ws e vs →
     Every (λ u. TableWide ws (e u) 3) (others_in v q)
 unfolding others_in
-others-wide {ws} {e} {vs} v q c h =
+others_wide {ws} {e} {vs} v q c h =
     every_filter (λ u. TableWide ws (e u) 3) (λ u. not (eqb u v) && free u q)
     (λ u. other_true (eqb u v) (free u q) (λ n f. h.wide_at u (bound_inner u v vs n (free_bound q (v ∷ vs) u c f).0)))
     (below 8)
@@ -465,7 +465,7 @@ keeps_QT at v a b ha hb vs ws n l e c en hl h =
     let x = ha vs ws n l e c.1 en hl h in
     sound_then x.ends
     (hb (v ∷ vs) x.after _ l _ c.2 (count x.ends en) (kept x.ends hl)
-    (env-hold v x.result (env_kept x.ends h)))
+    (env_hold v x.result (env_kept x.ends h)))
 
 keeps_QO : (at : ℕ) (f : Function) (a b : Query) → KeepsWide a → KeepsWide b → KeepsWide (QO at f a b)
 unfolding tr next
@@ -500,12 +500,12 @@ for_tail b k l map f =
     let y = tr b k l f in
     then y.ops (tail_f (next k y) y.result map)
 
-sound-forTail :
+sound_for_tail :
     (b : Query) (vs ws : List ℕ) (k l map : ℕ) (f : Tables) → KeepsWide b →
     Closed b vs → k ≡ length ws → TableWide ws l 1 → TableWide ws map 2 → EnvWide ws f vs
     → WellMade ws (for_tail b k l map f)
 unfolding next
-sound-forTail b vs ws k l map f hb c ek hl hm h =
+sound_for_tail b vs ws k l map f hb c ek hl hm h =
     let y = hb vs ws k l f c ek hl h in
     sound_then y.ends (sound_F y.after (count y.ends ek) y.result (kept y.ends hm))
 
@@ -516,29 +516,29 @@ for_body v b m r e =
     let f = hold v (m + 2) (lifted e (m + 5) (others_in v b)) in
     then (head_f m r) (then lift (for_tail b (m + 5 + length lift) (m + 3) (m + 4) f))
 
-sound-for :
+sound_for :
     (v : ℕ) (b : Query) (vs ws : List ℕ) (m r : ℕ) (e : Tables) → KeepsWide b →
     Closed b (v ∷ vs) → m ≡ length ws → TableWide ws r 3 → EnvWide ws e vs → WellMade ws (for_body v b m r e)
 unfolding head_f columns all
-sound-for v b vs ws m r e hb c em hr h =
+sound_for v b vs ws m r e hb c em hr h =
     let head = ends_F ws em hr in
     let em5 = count head em in
     let env = env_kept head h in
     let map = new ws em _ 4 tt in
-    let x = lift (m + 4) 2 4 1 2 refl refl refl (others_in v b) _ (m + 5) e em5 (others-wide v b c env) map in
+    let x = lift (m + 4) 2 4 1 2 refl refl refl (others_in v b) _ (m + 5) e em5 (others_wide v b c env) map in
     sound_then head
     (sound_then x.ends
-    (sound-forTail b (v ∷ vs) x.after _ (m + 3) (m + 4) _ hb c (count x.ends em5)
+    (sound_for_tail b (v ∷ vs) x.after _ (m + 3) (m + 4) _ hb c (count x.ends em5)
     (kept x.ends (new ws em _ 3 tt))
     (kept x.ends map)
-    (env-hold v (kept x.ends (new ws em _ 2 tt)) (env-lifted x env))))
+    (env_hold v (kept x.ends (new ws em _ 2 tt)) (env_lifted x env))))
 
 keeps_QF : (at v : ℕ) (a b : Query) → KeepsWide a → KeepsWide b → KeepsWide (QF at v a b)
 unfolding tr next
 keeps_QF at v a b ha hb vs ws n l e c en hl h =
     let x = ha vs ws n l e c.1 en hl h in
     sound_then x.ends
-    (sound-for v b vs x.after _ _ e hb c.2 (count x.ends en) x.result (env_kept x.ends h))
+    (sound_for v b vs x.after _ _ e hb c.2 (count x.ends en) x.result (env_kept x.ends h))
 
 -- a branch of `if` under loop table l, the lifted variables first; then what follows it
 branch :
@@ -553,8 +553,8 @@ branch :
     WellMade ws (then os (then x.ops y))
 unfolding columns all
 branch q vs ws n l e hq c en hl h y go =
-    let os = lift l 1 0 1 2 refl refl refl (free_in q) ws n e en (free-wide q c h) hl in
-    let x = hq vs os.after _ l _ c (count os.ends en) (kept os.ends hl) (env-lifted os h) in
+    let os = lift l 1 0 1 2 refl refl refl (free_in q) ws n e en (free_wide q c h) hl in
+    let x = hq vs os.after _ l _ c (count os.ends en) (kept os.ends hl) (env_lifted os h) in
     sound_then os.ends
     (sound_then x.ends
     (go x.after (ends_then os.ends x.ends) (count x.ends (count os.ends en)) x.result))
@@ -567,12 +567,12 @@ else_body b j l r e =
     let y = tr b k l (lifted e j (free_in b)) in
     then lift (then y.ops (record { ops = RU r y.result ∷ []; result = next k y }))
 
-sound-else :
+sound_else :
     (b : Query) (vs ws : List ℕ) (j l r : ℕ) (e : Tables) → KeepsWide b →
     Closed b vs → j ≡ length ws → TableWide ws l 1 → TableWide ws r 3 → EnvWide ws e vs
     → WellMade ws (else_body b j l r e)
 unfolding next
-sound-else b vs ws j l r e hb c ej hl hr h =
+sound_else b vs ws j l r e hb c ej hl hr h =
     branch b vs ws j l e hb c ej hl h _ (λ us done eu ry. sound_U us eu (kept done hr) ry)
 
 abbrev choice_body : Query → Query → ℕ → ℕ → ℕ → Tables → Made
@@ -582,23 +582,23 @@ choice_body a b m l r e =
     let x = tr a i (m + 2) (lifted e (m + 4) (free_in a)) in
     then (head_i m l r) (then lift (then x.ops (else_body b (next i x) (m + 3) x.result e)))
 
-sound-choice :
+sound_choice :
     (a b : Query) (vs ws : List ℕ) (m l r : ℕ) (e : Tables) → KeepsWide a → KeepsWide b → Closed a vs → Closed b vs →
     m ≡ length ws → TableWide ws l 1 → TableWide ws r 3 → EnvWide ws e vs → WellMade ws (choice_body a b m l r e)
 unfolding next head_i
-sound-choice a b vs ws m l r e ha hb ca cb em hl hr h =
+sound_choice a b vs ws m l r e ha hb ca cb em hl hr h =
     let head = ends_I ws em hl hr in
     let env = env_kept head h in
     sound_then head
     (branch a vs _ (m + 4) (m + 2) e ha ca (count head em) (new ws em _ 2 tt) env _
-    (λ us done eu rx. sound-else b vs us _ (m + 3) _ e hb cb eu (kept done (new ws em _ 3 tt)) rx (env_kept done env)))
+    (λ us done eu rx. sound_else b vs us _ (m + 3) _ e hb cb eu (kept done (new ws em _ 3 tt)) rx (env_kept done env)))
 
 keeps_QI : (at : ℕ) (c a b : Query) → KeepsWide c → KeepsWide a → KeepsWide b → KeepsWide (QI at c a b)
 unfolding tr next
 keeps_QI at c a b hc ha hb vs ws n l e p en hl h =
     let z = hc vs ws n l e p.0 en hl h in
     sound_then z.ends
-    (sound-choice a b vs z.after _ l _ e ha hb p.1 p.2 (count z.ends en) (kept z.ends hl) z.result
+    (sound_choice a b vs z.after _ l _ e ha hb p.1 p.2 (count z.ends en) (kept z.ends hl) z.result
     (env_kept z.ends h))
 
 keeps_QL : (at : ℕ) (z : ℤ) → KeepsWide (QL at z)
@@ -614,10 +614,10 @@ unfolding tr
 keeps_QR at k vs ws n l e c en hl h = sound_R ws en k hl
 
 -- after tables of widths ws, under a loop table of width 1 and variables of width 3, each rule is sound
-pub tr-sound :
+pub tr_sound :
     (q : Query) (vs ws : List ℕ) (n l : ℕ) (e : Tables) →
     Closed q vs → n ≡ length ws → TableWide ws l 1 → EnvWide ws e vs → WellMade ws (tr q n l e)
-tr-sound q =
+tr_sound q =
     elim q as (λ q. KeepsWide q) [
       | QL at z ↦ keeps_QL at z
       | QE at ↦ keeps_QE at
@@ -647,7 +647,7 @@ pub plan_widths : (q : Query) → Closed q [] → (ws : List ℕ) × (widths [] 
 unfolding plan next
 plan_widths q c =
     let loop : TableWide (1 ∷ []) 0 1 = record { there = lit< tt; is = refl } in
-    let x = tr-sound q [] (1 ∷ []) 1 0 (λ v. 0) c refl loop (no_variables (1 ∷ []) (λ v. 0)) in
+    let x = tr_sound q [] (1 ∷ []) 1 0 (λ v. 0) c refl loop (no_variables (1 ∷ []) (λ v. 0)) in
     let last = ends_last x.after (count x.ends refl) x.result in
     let all = ends_then first_loop (ends_then x.ends last) in
     (x.after ++ (4 ∷ []), all.is ∙ ap gives (sym (append_assoc x.after (4 ∷ []) (3 ∷ []))))

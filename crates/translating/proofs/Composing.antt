@@ -2,7 +2,7 @@
 --     wrote_is             equal operators
 --     then_append          operators in two parts, then a rule's
 --     one_made, two_made   one operand, or two, then the rule's last operators
---     let-made, for_made, branch-made, choice_made    QT; QF; a branch of QI; QI
+--     let_made, for_made, branch_made, choice_made    QT; QF; a branch of QI; QI
 use Prim.Native.Nat.{ℕ, ◌+◌}
 use mathlib.Core.Path.{◌≡◌, refl, ap, ap₂, ◌∙◌, subst}
 use mathlib.Core.List.{List, [], ◌∷◌, ◌++◌, append_assoc}
@@ -20,11 +20,11 @@ use Rattle.adding.specs.Ruled.{Wrote, Ruled}
 use Rattle.lifting.specs.Lifts.{HoldsTables}
 use Rattle.carrying.specs.Carried.{IntoBranch, IntoBody}
 use Rattle.scopes.specs.Choices.{choice}
-use Rattle.adding.proofs.Adding.{ruled-then}
+use Rattle.adding.proofs.Adding.{ruled_then}
 use Rattle.lifting.proofs.Lifting.{hold_holds}
 use Rattle.translating.specs.Translating.{Tree, Two, Three, Makes, MakesBranch, branched}
 use Rattle.translating.proofs.Rooms.{moved}
-use Rattle.translating.proofs.Splitting.{ruled-is}
+use Rattle.translating.proofs.Splitting.{ruled_is}
 
 pub wrote_is : {os ps : List Op} {x y : List ℕ} {p q : Pen} → os ≡ ps → Wrote os x p y q → Wrote ps x p y q
 wrote_is {x = x} {y} {p} {q} e w = subst (λ (os : List Op). Wrote os x p y q) e w
@@ -47,7 +47,7 @@ pub one_made :
     Ruled
     (let x = tr a p.operators l e in then x.ops (tail (next p.operators x) x.result)) end x p z u
 unfolding next
-one_made tail a l e g t = ruled-then g.wrote (ruled-is (tail_is tail g.wrote.count g.table) g.after t)
+one_made tail a l e g t = ruled_then g.wrote (ruled_is (tail_is tail g.wrote.count g.table) g.after t)
 
 module _
     (rd : ℕ → Parsed) {at l : ℕ} {ts x y : List ℕ} {p : Pen} {r : Output} (o : Two rd at)
@@ -64,7 +64,7 @@ module _
       Ruled (tr o.b.q (next p.operators (tr o.a.q p.operators l e)) k f) o.b.end y r.pen z s
   unfolding next
   second {k} g f i =
-      ruled-is (ap (λ (n : ℕ). tr o.b.q n k f) first.wrote.count) refl (g.made (moved rd first.after
+      ruled_is (ap (λ (n : ℕ). tr o.b.q n k f) first.wrote.count) refl (g.made (moved rd first.after
       o.b) f i)
 
   pub two_made :
@@ -79,21 +79,21 @@ module _
       let b = second g e h in
       let k = next p.operators (tr o.a.q p.operators l e) in
       let n = length (tr o.b.q k l e).ops in
-      ruled-then first.wrote
-      (ruled-then b.wrote
-      (ruled-is (tails_is tail (b.wrote.count ∙ ap (λ (i : ℕ). i + n) first.wrote.count) first.table
+      ruled_then first.wrote
+      (ruled_then b.wrote
+      (ruled_is (tails_is tail (b.wrote.count ∙ ap (λ (i : ℕ). i + n) first.wrote.count) first.table
       b.table)
       b.after t))
 
-  pub let-made :
+  pub let_made :
       (v : ℕ) {z : List ℕ} {s : Output} → length ts ≡ 8 → Makes (rd r.next) l (set ts v r.table) y r.pen z s →
       Ruled (tr (QT 0 v o.a.q o.b.q) p.operators l e) o.b.end x p z s
   unfolding tr
-  let-made v k g =
+  let_made v k g =
       let x = tr o.a.q p.operators l e in
       let i = hold_holds ts e v r.table k h in
-      ruled-then first.wrote
-      (ruled-is (ap (λ (t : ℕ). tr o.b.q (next p.operators x) l (hold v t e)) first.table) refl
+      ruled_then first.wrote
+      (ruled_is (ap (λ (t : ℕ). tr o.b.q (next p.operators x) l (hold v t e)) first.table) refl
       (second g (hold v r.table e) i))
 
   module _
@@ -140,7 +140,7 @@ module _
     body' : Ruled (tr o.b.q k' (m' + 3) (hold v (m' + 2) (lifted e (m' + 5) us))) o.b.end w a.pen b s
     unfolding tree us
     body' =
-        ruled-is (alike at_lift at_m at_head) refl
+        ruled_is (alike at_lift at_m at_head) refl
         (body.made tree (hold v (r.pen.operators + 2) (lifted e q.operators us))
         (carried.holds o.b.q o.b.end tree.given e h))
       where
@@ -159,24 +159,24 @@ module _
     pub for_made : Ruled (tr (QF 0 v o.a.q o.b.q) p.operators l e) o.b.end x p t u
     unfolding tr m' us k'
     for_made =
-        ruled-then first.wrote
-        (ruled-then head'
-        (ruled-then lift'
-        (ruled-then body'.wrote
-        (ruled-is (tails_is (λ n b m. tail_f n b (m + 4)) at_body body'.table at_m) body'.after tail))))
+        ruled_then first.wrote
+        (ruled_then head'
+        (ruled_then lift'
+        (ruled_then body'.wrote
+        (ruled_is (tails_is (λ n b m. tail_f n b (m + 4)) at_body body'.table at_m) body'.after tail))))
 
 -- A branch of QI
 
-pub branch-made :
+pub branch_made :
     {d : Parsed} {l : ℕ} {ts x y z : List ℕ} {p : Pen} {a : Lifted} {r : Output} → IntoBranch d l ts x p y a →
     Makes d l a.tables y a.pen z r →
     (t : Tree d) (e : Tables) → HoldsTables ts e → Ruled (branched t.q p.operators l e) t.end x p z r
 unfolding branched
-branch-made {l = l} {p = p} carried body t e h =
+branch_made {l = l} {p = p} carried body t e h =
     let w = carried.wrote t.q t.end t.given e h in
     let i = carried.holds t.q t.end t.given e h in
     let f = lifted e p.operators (free_in t.q) in
-    ruled-then w (ruled-is (ap (λ (n : ℕ). tr t.q n l f) w.count) refl (body.made t f i))
+    ruled_then w (ruled_is (ap (λ (n : ℕ). tr t.q n l f) w.count) refl (body.made t f i))
 
 -- QI by its branches
 
@@ -195,12 +195,12 @@ after_both : (i : ℕ) (os ps : List Op) → i + length (os ++ ps) ≡ i + lengt
 after_both i os ps = simp length-append (omega arith)
 
 -- the union of two branches, the second's operators in two parts
-union-append :
+union_append :
     (t i : ℕ) (lift : List Op) (y : Made) →
     then (lift ++ y.ops) (choice (i + length (lift ++ y.ops)) t y.result)
     ≡ then lift (then y.ops (record { ops = RU t y.result ∷ []; result = i + length lift + length y.ops }))
 unfolding choice
-union-append t i lift y =
+union_append t i lift y =
     then_append lift y.ops _
     ∙ ap (λ (n : ℕ). then lift (then y.ops (record { ops = RU t y.result ∷ []; result = n }))) (after_both i lift
     y.ops)
@@ -221,7 +221,7 @@ choice_is c a b n l e =
     let y = branched b i (m + 3) e in
     then (liftA ++ x.ops) (then y.ops (choice (next i y) x.result y.result)))
     (after_both (m + 4) liftA x.ops)
-    ∙ ap (λ (r : Made). then (liftA ++ x.ops) r) (union-append x.result j liftB y)
+    ∙ ap (λ (r : Made). then (liftA ++ x.ops) r) (union_append x.result j liftB y)
     ∙ then_append liftA x.ops _)
 
 module _
@@ -251,7 +251,7 @@ module _
 
   yea' : Ruled (branched o.a.q (m'' + 4) (m'' + 2) e) o.a.end z q w s
   yea' =
-      ruled-is (ap₂ (λ (n m : ℕ). branched o.a.q n (m + 2) e) at_loops at_c) refl
+      ruled_is (ap₂ (λ (n m : ℕ). branched o.a.q n (m + 2) e) at_loops at_c) refl
       (yea.made (moved rd condition.after o.a) e h)
 
   j'' : ℕ
@@ -264,7 +264,7 @@ module _
 
   nay' : Ruled (branched o.b.q j'' (m'' + 3) e) o.b.end w s.pen b k
   nay' =
-      ruled-is (ap₂ (λ (n m : ℕ). branched o.b.q n (m + 3) e) at_a at_c) refl
+      ruled_is (ap₂ (λ (n m : ℕ). branched o.b.q n (m + 3) e) at_a at_c) refl
       (nay.made (moved rd yea'.after o.b) e h)
 
   at_b : k.pen.operators ≡ next j'' (branched o.b.q j'' (m'' + 3) e)
@@ -274,9 +274,9 @@ module _
   pub choice_made : Ruled (tr (QI 0 o.c.q o.a.q o.b.q) p.operators l e) o.b.end x p t u
   unfolding m'' j''
   choice_made =
-      ruled-is (choice_is o.c.q o.a.q o.b.q p.operators l e) refl
-      (ruled-then condition.wrote
-      (ruled-then head''
-      (ruled-then yea'.wrote
-      (ruled-then nay'.wrote
-      (ruled-is (tails_is choice at_b yea'.table nay'.table) nay'.after tail)))))
+      ruled_is (choice_is o.c.q o.a.q o.b.q p.operators l e) refl
+      (ruled_then condition.wrote
+      (ruled_then head''
+      (ruled_then yea'.wrote
+      (ruled_then nay'.wrote
+      (ruled_is (tails_is choice at_b yea'.table nay'.table) nay'.after tail)))))

@@ -3,7 +3,7 @@
 --     unsound          there is a tree, so there is a record
 --     kind_parses      the tree of a record whose kind is known
 --     kind_ranged, kind_small     its fields are in their ranges
---     literal-made, root_made, empty_made, variable-made    what the rules of records without operands write
+--     literal_made, root_made, empty_made, variable_made    what the rules of records without operands write
 use Prim.Native.Nat.{ℕ, ◌-◌, ◌<◌}
 use mathlib.Core.Path.{◌≡◌, sym, ap, ◌∙◌, subst}
 use mathlib.Core.List.{List, []}
@@ -24,7 +24,7 @@ use Rattle.query_records.specs.Decoded as Code
 use Rattle.query_records.specs.Decoded.{SmallLiteral, Means}
 use Rattle.query_walks.specs.Parse.{trees, parse}
 use Rattle.query_records.specs.Fields.{Ranged}
-use Rattle.query_walks.proofs.Callers.{unfound_parses, found-parses, shallow_parses}
+use Rattle.query_walks.proofs.Callers.{unfound_parses, found_parses, shallow_parses}
 use Rattle.query_records.proofs.Callers.{found_sound, found_small}
 use Rattle.adding.specs.declared.Pen.{Pen}
 use Rattle.adding.specs.declared.Output.{Output}
@@ -43,7 +43,7 @@ module _ (bs : List ℕ) (at d : ℕ) (p : Pen) (h : Asked (parse d bs at) p) wh
     module _ (f : Decoded) (s : r ≡ Found.Sound f) {k : Record} (e : f.kind ≡ k) where
       pub kind_parses : parse d bs at ≡ trees (parse (d - 1) bs) at f.next (Code.record_of k)
       kind_parses =
-          found-parses bs at r m f s d deep
+          found_parses bs at r m f s d deep
           ∙ ap (λ (k : Record). trees (parse (d - 1) bs) at f.next (Code.record_of k)) e
 
       pub kind_ranged : Ranged (Code.record_of k)
@@ -55,11 +55,11 @@ module _ (bs : List ℕ) (at d : ℕ) (p : Pen) (h : Asked (parse d bs at) p) wh
 -- Records without operands
 
 module _ (l : ℕ) (ts : List ℕ) {next : ℕ} {x y : List ℕ} {p : Pen} {r : Output} where
-  pub literal-made :
+  pub literal_made :
       (at : ℕ) (z w : ℤ) → SFits w64 z → z ≡ w → Ruled (rule_l p.operators l (to_z w64 (of_z w64 z))) next x p y r →
       Translates (QL at w) next l ts x p y r
   unfolding tr
-  literal-made at z w h e g f i =
+  literal_made at z w h e g f i =
       subst (λ (u : ℤ). Ruled (rule_l p.operators l u) next x p y r) (to_z-of_z h ∙ e) g
 
   pub empty_made : (at : ℕ) → Ruled (rule_e p.operators l) next x p y r → Translates (QE at) next l ts x p y r
@@ -70,11 +70,11 @@ module _ (l : ℕ) (ts : List ℕ) {next : ℕ} {x y : List ℕ} {p : Pen} {r : 
   unfolding tr
   root_made at k g e h = g
 
-pub variable-made :
+pub variable_made :
     (at v : ℕ) (next l : ℕ) (ts x : List ℕ) (p : Pen) (r : Output) → v < 8 →
     r ≡ record { table = get_or ts v 0; pen = p; next = next } → Translates (QV at v) next l ts x p x r
 unfolding tr
-variable-made at v next l ts x p r h s e k =
+variable_made at v next l ts x p r h s e k =
     record {
       wrote = subst (λ (q : Pen). Wrote [] x p x q) (sym (ap (λ (o : Output). o.pen) s)) (wrote_none x p);
       table = ap (λ (o : Output). o.table) s ∙ k v h;

@@ -2,12 +2,12 @@
 --     room_less            less room
 --     room_after           the room after an expression's operators
 --     moved                a tree, read from an equal offset
---     ruled-own            what an operand leaves, over the row's own tables
---     only_asked, one-room                  one operand: its room, and the room after it
---     first_asked, second_asked, two-room   two operands: the room of each, and the room after both
---     head_room, body_asked, body-room      QF's body: the room for lifting, for the body, and after it
+--     ruled_own            what an operand leaves, over the row's own tables
+--     only_asked, one_room                  one operand: its room, and the room after it
+--     first_asked, second_asked, two_room   two operands: the room of each, and the room after both
+--     head_room, body_asked, body_room      QF's body: the room for lifting, for the body, and after it
 --     branch_asked                          a branch of QI: the room for it, after lifting
---     condition_asked, then_asked, else_asked, choice-room    QI: the room of each operand, and after them
+--     condition_asked, then_asked, else_asked, choice_room    QI: the room of each operand, and after them
 use Prim.Native.Nat.{ℕ, suc, ◌+◌, ◌*◌, ◌≤◌}
 use mathlib.Core.Path.{◌≡◌, ap, ◌∙◌}
 use mathlib.Core.List.{List, [], ◌∷◌}
@@ -25,7 +25,7 @@ use Rattle.adding.specs.Ruled.{PenRoom, Wrote, Ruled}
 use Rattle.lifting.specs.Lifts.{tables_of}
 use Rattle.carrying.specs.Carried.{IntoBranch, IntoBody}
 use Rattle.adding.proofs.Adding.{wrote_room}
-use Rattle.carrying.proofs.Carrying.{own, into-branch-room, into-body-room}
+use Rattle.carrying.proofs.Carrying.{own, into_branch_room, into_body_room}
 use Rattle.translating.specs.Translating.{Tree, Asked, AskedOne, AskedTwo, AskedThree, AskedBranch}
 use Rattle.translating.specs.Translating.{Makes, MakesBranch, branched}
 
@@ -41,22 +41,22 @@ abbrev pub moved : (rd : ℕ → Parsed) {m n : ℕ} → m ≡ n → Tree (rd n)
 moved rd e t = record { q = t.q; end = t.end; given = ap rd e ∙ t.given }
 
 -- what an operand leaves, over the row's own tables
-pub ruled-own :
+pub ruled_own :
     {d : Parsed} {l : ℕ} {ts x y : List ℕ} {p : Pen} {r : Output} → Makes d l ts x p y r → (t : Tree d) →
     Ruled (tr t.q p.operators l (tables_of ts)) t.end x p y r
-ruled-own {ts = ts} m t = m.made t (tables_of ts) (own ts)
+ruled_own {ts = ts} m t = m.made t (tables_of ts) (own ts)
 
 module _ (f : Query → Query) (more : (a : Query) → records (f a) ≡ suc (records a)) where
   pub only_asked : {d : Parsed} {p : Pen} → AskedOne f d p → Asked d p
   only_asked h =
       record { tree = h.operand; room = room_less _ h.room (omega (arith, more h.operand.q)) }
 
-  pub one-room :
+  pub one_room :
       {d : Parsed} {l : ℕ} {ts x y : List ℕ} {p : Pen} {r : Output} → AskedOne f d p → Makes d l ts x p y r →
       PenRoom r.pen 37
-  one-room h m =
+  one_room h m =
       let t = h.operand in
-      room_after t.q _ _ _ (ruled-own m t) 37 _ h.room (omega (arith, more t.q))
+      room_after t.q _ _ _ (ruled_own m t) 37 _ h.room (omega (arith, more t.q))
 
 module _ (f : Query → Query → Query) (more : (a b : Query) → records (f a b) ≡ suc (records a + records b)) where
   pub first_asked : {rd : ℕ → Parsed} {at : ℕ} {p : Pen} → AskedTwo f rd at p → Asked (rd at) p
@@ -71,18 +71,18 @@ module _ (f : Query → Query → Query) (more : (a b : Query) → records (f a 
     pub first_room : PenRoom r.pen (37 * suc (records h.operands.b.q))
     first_room =
         let o = h.operands in
-        room_after o.a.q _ _ _ (ruled-own m o.a) _ _ h.room (omega (arith, more o.a.q o.b.q))
+        room_after o.a.q _ _ _ (ruled_own m o.a) _ _ h.room (omega (arith, more o.a.q o.b.q))
 
     -- b's tree, where a ends
     abbrev pub second_tree : Tree (rd r.next)
-    second_tree = moved rd (ruled-own m h.operands.a).after h.operands.b
+    second_tree = moved rd (ruled_own m h.operands.a).after h.operands.b
 
     pub second_asked : Asked (rd r.next) r.pen
     second_asked = record { tree = second_tree; room = room_less _ first_room (omega arith) }
 
-    pub two-room :
+    pub two_room :
         {l' : ℕ} {ts' z : List ℕ} {s : Output} → Makes (rd r.next) l' ts' y r.pen z s → PenRoom s.pen 37
-    two-room g = room_after h.operands.b.q _ _ _ (ruled-own g second_tree) 37 _ first_room (omega arith)
+    two_room g = room_after h.operands.b.q _ _ _ (ruled_own g second_tree) 37 _ first_room (omega arith)
 
     -- QF: after its first operators and the lifted variables
     module _
@@ -95,14 +95,14 @@ module _ (f : Query → Query → Query) (more : (a b : Query) → records (f a 
           {v o k : ℕ} {us w : List ℕ} {a : Lifted} (i : IntoBody (rd r.next) v o k us z q w a) where
         lifted_room : PenRoom a.pen (16 + 37 * records h.operands.b.q)
         lifted_room =
-            into-body-room second_tree.q second_tree.end second_tree.given i _ _ head_room (omega arith)
+            into_body_room second_tree.q second_tree.end second_tree.given i _ _ head_room (omega arith)
 
         pub body_asked : Asked (rd r.next) a.pen
         body_asked = record { tree = second_tree; room = room_less _ lifted_room (omega arith) }
 
-        pub body-room :
+        pub body_room :
             {l' : ℕ} {ts' v : List ℕ} {s : Output} → Makes (rd r.next) l' ts' w a.pen v s → PenRoom s.pen 16
-        body-room m = room_after h.operands.b.q _ _ _ (ruled-own m second_tree) 16 _ lifted_room (omega arith)
+        body_room m = room_after h.operands.b.q _ _ _ (ruled_own m second_tree) 16 _ lifted_room (omega arith)
 
 -- A branch of QI
 
@@ -111,7 +111,7 @@ pub branch_asked :
     Asked d a.pen
 branch_asked h i =
     let t = h.tree in
-    record { tree = t; room = into-branch-room t.q t.end t.given i _ _ h.room (omega arith) }
+    record { tree = t; room = into_branch_room t.q t.end t.given i _ _ h.room (omega arith) }
 
 branch_bound : (q : Query) (n l : ℕ) (e : Tables) → length (branched q n l e).ops ≤ 16 + 37 * records q
 unfolding branched then
@@ -126,16 +126,16 @@ branch_bound q n l e =
     ))
 
 -- what a branch leaves, over the row's own tables
-branch-own :
+branch_own :
     {d : Parsed} {l : ℕ} {ts x y : List ℕ} {p : Pen} {r : Output} → MakesBranch d l ts x p y r → (t : Tree d) →
     Ruled (branched t.q p.operators l (tables_of ts)) t.end x p y r
-branch-own {ts = ts} m t = m.made t (tables_of ts) (own ts)
+branch_own {ts = ts} m t = m.made t (tables_of ts) (own ts)
 
-branch-room :
+branch_room :
     {d : Parsed} {l : ℕ} {ts x y : List ℕ} {p : Pen} {r : Output} (m : MakesBranch d l ts x p y r) (t : Tree d)
     (j k : ℕ) → PenRoom p k → 16 + 37 * records t.q + j ≤ k → PenRoom r.pen j
-branch-room {l = l} {ts = ts} {p = p} m t j k h b =
-    wrote_room (branch-own m t).wrote j k h (omega (arith, branch_bound t.q p.operators l (tables_of ts)))
+branch_room {l = l} {ts = ts} {p = p} m t j k h b =
+    wrote_room (branch_own m t).wrote j k h (omega (arith, branch_bound t.q p.operators l (tables_of ts)))
 
 module _ (rd : ℕ → Parsed) (at : ℕ) (p : Pen) (h : AskedThree (QI 0) rd at p) where
   -- the room for all of QI
@@ -149,7 +149,7 @@ module _ (rd : ℕ → Parsed) (at : ℕ) (p : Pen) (h : AskedThree (QI 0) rd at
   module _ {l : ℕ} {ts x y : List ℕ} {r : Output} (m : Makes (rd at) l ts x p y r) where
     pub condition_room : PenRoom r.pen (37 * suc (records h.operands.a.q + records h.operands.b.q))
     condition_room =
-        room_after h.operands.c.q _ _ _ (ruled-own m h.operands.c) _ _ all_room (omega arith)
+        room_after h.operands.c.q _ _ _ (ruled_own m h.operands.c) _ _ all_room (omega arith)
 
     module _ (n k t : ℕ) {z : List ℕ} {q : Pen} (g : Wrote (head_i n k t) y r.pen z q) where
       loops_room : PenRoom q (33 + 37 * (records h.operands.a.q + records h.operands.b.q))
@@ -157,22 +157,22 @@ module _ (rd : ℕ → Parsed) (at : ℕ) (p : Pen) (h : AskedThree (QI 0) rd at
       loops_room = wrote_room g _ _ condition_room (omega arith)
 
       abbrev then_tree : Tree (rd r.next)
-      then_tree = moved rd (ruled-own m h.operands.c).after h.operands.a
+      then_tree = moved rd (ruled_own m h.operands.c).after h.operands.a
 
       pub then_asked : AskedBranch (rd r.next) q
       then_asked = record { tree = then_tree; room = room_less _ loops_room (omega arith) }
 
       module _ {l' : ℕ} {ts' w : List ℕ} {s : Output} (i : MakesBranch (rd r.next) l' ts' z q w s) where
         then_room : PenRoom s.pen (17 + 37 * records h.operands.b.q)
-        then_room = branch-room i then_tree _ _ loops_room (omega arith)
+        then_room = branch_room i then_tree _ _ loops_room (omega arith)
 
         abbrev else_tree : Tree (rd s.next)
-        else_tree = moved rd (branch-own i then_tree).after h.operands.b
+        else_tree = moved rd (branch_own i then_tree).after h.operands.b
 
         pub else_asked : AskedBranch (rd s.next) s.pen
         else_asked = record { tree = else_tree; room = room_less _ then_room (omega arith) }
 
-        pub choice-room :
+        pub choice_room :
             {l'' : ℕ} {ts'' v : List ℕ} {u : Output} → MakesBranch (rd s.next) l'' ts'' w s.pen v u
             → PenRoom u.pen 1
-        choice-room j = branch-room j else_tree 1 _ then_room (omega arith)
+        choice_room j = branch_room j else_tree 1 _ then_room (omega arith)

@@ -1,8 +1,8 @@
 -- The record at an offset decides what is asked of its operands, and what they leave decides what it leaves.
---     ruled-is                          an equal rule
+--     ruled_is                          an equal rule
 --     Alike1, Alike2, Alike3            two expressions of the same operands that have the same plan
---     leaf_room, leaf-makes             a record without operands
---     one_asked, one-makes .. three-makes    one with one operand, with two, with three
+--     leaf_room, leaf_makes             a record without operands
+--     one_asked, one_makes .. three_makes    one with one operand, with two, with three
 use Prim.Native.Nat.{ℕ, ◌*◌}
 use mathlib.Core.Path.{◌≡◌, sym, ap, ◌∙◌}
 use mathlib.Core.List.{List}
@@ -13,7 +13,7 @@ use Rattle.meaning.specs.Translation.{Made, Tables, tr}
 use Rattle.theorems.specs.Closed.{records}
 use Rattle.laws.proofs.Outcomes.{gives_same}
 use Rattle.query_walks.specs.Parse.{Parsed, lone, pair, triple}
-use Rattle.query_walks.proofs.Parsing.{lone-gives, pair-gives, triple-gives}
+use Rattle.query_walks.proofs.Parsing.{lone_gives, pair_gives, triple_gives}
 use Rattle.adding.specs.declared.Pen.{Pen}
 use Rattle.adding.specs.declared.Output.{Output}
 use Rattle.adding.specs.Ruled.{PenRoom, Ruled}
@@ -21,10 +21,10 @@ use Rattle.translating.specs.Translating.{Tree, Two, Three, Asked, AskedOne, Ask
 use Rattle.translating.specs.Translating.{Makes}
 use Rattle.translating.specs.Translating.{MakesOne, MakesTwo, MakesThree}
 
-pub ruled-is :
+pub ruled_is :
     {m k : Made} {next last : ℕ} {x y : List ℕ} {p : Pen} {r : Output} → m ≡ k → next ≡ last → Ruled m next x p y r →
     Ruled k last x p y r
-ruled-is {next = next} {last = last} e d g =
+ruled_is {next = next} {last = last} e d g =
     record { wrote = rw e at g.wrote; table = g.table ∙ ap (λ (k : Made). k.result) e; after = g.after ∙ d }
 
 -- the same tree, and the same offset after it
@@ -42,12 +42,12 @@ module _ (q : Query) (next : ℕ) {d : Parsed} (e : d ≡ gives (q, next)) where
       let same : records q ≡ records h.tree.q = ap (λ (z : Query × ℕ). records z.0) (leaf_is h.tree) in
       record { few = omega (arith, h.room.few, same, one); short = h.room.short }
 
-  pub leaf-makes :
+  pub leaf_makes :
       {l : ℕ} {ts x y : List ℕ} {p : Pen} {r : Output} → Translates q next l ts x p y r → Makes d l ts x p y r
-  leaf-makes {l} {p = p} g = record {
+  leaf_makes {l} {p = p} g = record {
     made = λ t e h.
         let s = leaf_is t in
-        ruled-is (ap (λ (z : Query × ℕ). tr z.0 p.operators l e) s) (ap (λ (z : Query × ℕ). z.1) s) (g e h);
+        ruled_is (ap (λ (z : Query × ℕ). tr z.0 p.operators l e) s) (ap (λ (z : Query × ℕ). z.1) s) (g e h);
   }
 
 -- Records with operands
@@ -72,7 +72,7 @@ module _ {f g : Query → Query} (same : Alike1 f g) {d : Parsed} (a : Parsed) (
 
   split1 : (t : Tree d) → Split1 t
   split1 t =
-      let (x, p, s) = lone-gives g a (t.q, t.end) (sym e ∙ t.given) in
+      let (x, p, s) = lone_gives g a (t.q, t.end) (sym e ∙ t.given) in
       record { operand = record { q = x.0; end = x.1; given = p }; tree = s }
 
   pub one_asked : {p : Pen} → Asked d p → AskedOne f a p
@@ -85,12 +85,12 @@ module _ {f g : Query → Query} (same : Alike1 f g) {d : Parsed} (a : Parsed) (
             (same.count s.operand.q ∙ ap (λ (z : Query × ℕ). records z.0) s.tree) h.room;
       }
 
-  pub one-makes :
+  pub one_makes :
       {l : ℕ} {ts x y : List ℕ} {p : Pen} {r : Output} → MakesOne f a l ts x p y r → Makes d l ts x p y r
-  one-makes {l} {p = p} m = record {
+  one_makes {l} {p = p} m = record {
     made = λ t e h.
         let s = split1 t in
-        ruled-is
+        ruled_is
         (same.plan s.operand.q p.operators l e ∙ ap (λ (z : Query × ℕ). tr z.0 p.operators l e) s.tree)
         (ap (λ (z : Query × ℕ). z.1) s.tree)
         (m.made s.operand e h);
@@ -105,7 +105,7 @@ module _
 
   split2 : (t : Tree d) → Split2 t
   split2 t =
-      let (x, y, p, s, u) = pair-gives g (rd at) rd (t.q, t.end) (sym e ∙ t.given) in
+      let (x, y, p, s, u) = pair_gives g (rd at) rd (t.q, t.end) (sym e ∙ t.given) in
       record {
         operands =
             record {
@@ -126,12 +126,12 @@ module _
             h.room;
       }
 
-  pub two-makes :
+  pub two_makes :
       {l : ℕ} {ts x y : List ℕ} {p : Pen} {r : Output} → MakesTwo f rd at l ts x p y r → Makes d l ts x p y r
-  two-makes {l} {p = p} m = record {
+  two_makes {l} {p = p} m = record {
     made = λ t e h.
         let s = split2 t in
-        ruled-is
+        ruled_is
         (same.plan s.operands.a.q s.operands.b.q p.operators l e
         ∙ ap (λ (z : Query × ℕ). tr z.0 p.operators l e) s.tree)
         (ap (λ (z : Query × ℕ). z.1) s.tree)
@@ -148,7 +148,7 @@ module _
 
   split3 : (t : Tree d) → Split3 t
   split3 t =
-      let (w, x, y, p, s, u, v) = triple-gives g (rd at) rd rd (t.q, t.end) (sym e ∙ t.given) in
+      let (w, x, y, p, s, u, v) = triple_gives g (rd at) rd rd (t.q, t.end) (sym e ∙ t.given) in
       record {
         operands =
             record {
@@ -171,12 +171,12 @@ module _
             h.room;
       }
 
-  pub three-makes :
+  pub three_makes :
       {l : ℕ} {ts x y : List ℕ} {p : Pen} {r : Output} → MakesThree f rd at l ts x p y r → Makes d l ts x p y r
-  three-makes {l} {p = p} m = record {
+  three_makes {l} {p = p} m = record {
     made = λ t e h.
         let s = split3 t in
-        ruled-is
+        ruled_is
         (same.plan s.operands.c.q s.operands.a.q s.operands.b.q p.operators l e
         ∙ ap (λ (z : Query × ℕ). tr z.0 p.operators l e) s.tree)
         (ap (λ (z : Query × ℕ). z.1) s.tree)

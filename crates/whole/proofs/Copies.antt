@@ -1,6 +1,6 @@
 -- Tables laid whole.
 --     table_full, table_laid                a table laid once more
---     both_first, both-second, both-laid    two tables, one after the other (RU)
+--     both_first, both_second, both_laid    two tables, one after the other (RU)
 use Prim.Native.Nat.{ℕ, ◌+◌, ◌*◌, ◌≤◌, ◌<◌}
 use mathlib.Core.Path.{◌≡◌, refl, sym, ap, ◌∙◌, subst}
 use mathlib.Core.List.{List, [], ◌∷◌, ◌++◌, append-nil}
@@ -22,7 +22,7 @@ use Rattle.tables.specs.Laying.{Settled, Laying}
 use Rattle.tables.specs.contracts.Laid.{the_type}
 use Rattle.tables.proofs.Promise.{owes_is}
 use Rattle.tables.proofs.Standing.{flat_rows_at, wide_rows_at}
-use Rattle.tables.proofs.Laying.{laying_start, laying-more, laying_end, laying-stopped}
+use Rattle.tables.proofs.Laying.{laying_start, laying_more, laying_end, laying_stopped}
 
 -- a table laid once more
 module _ (room at : ℕ) (s : Stand) (xs : List ℤ) (stands : Inside at s) (inside : at ≤ length xs) where
@@ -72,25 +72,25 @@ module _ (room at w : ℕ) (t u : Table) (xs : List ℤ) (within : at ≤ room) 
       Owes room at w (gives (t ++ u)) xs ys o
   both_first ys o h p =
       owes_is room at w xs ys o both_is
-      (laying-stopped room at w gives xs both xs at 0 t (u ∷ []) ys inside start o h settled p)
+      (laying_stopped room at w gives xs both xs at 0 t (u ∷ []) ys inside start o h settled p)
 
   module _ (ys : List ℤ) (n : ℕ) (first : Owes room at w (gives t) xs ys (Rows n)) where
     next : Laying room at w gives both xs (u ∷ []) ys (at + n * w) n
     next =
         subst (λ (k : ℕ). Laying room at w gives both xs (u ∷ []) ys (at + n * w) k) (zero-add n)
-        (laying-more room at w gives xs both xs at 0 t (u ∷ []) ys inside start n first)
+        (laying_more room at w gives xs both xs at 0 t (u ∷ []) ys inside start n first)
 
-    pub both-second :
+    pub both_second :
         (zs : List ℤ) (o : Laid) → OneOf (1 ∷ 2 ∷ []) (tag_of the_type o) → Owes room (at + n * w) w (gives u) ys zs o →
         Owes room at w (gives (t ++ u)) xs zs o
-    both-second zs o h p =
+    both_second zs o h p =
         owes_is room at w xs zs o both_is
-        (laying-stopped room at w gives xs both ys (at + n * w) n u [] zs inside next o h settled p)
+        (laying_stopped room at w gives xs both ys (at + n * w) n u [] zs inside next o h settled p)
 
-    pub both-laid :
+    pub both_laid :
         (zs : List ℤ) (m : ℕ) → Owes room (at + n * w) w (gives u) ys zs (Rows m)
         → Owes room at w (gives (t ++ u)) xs zs (Rows (n + m))
-    both-laid zs m p =
+    both_laid zs m p =
         owes_is room at w xs zs (Rows (n + m)) both_is
         (laying_end room at w gives xs both zs (at + n * w + m * w) (n + m)
-        (laying-more room at w gives xs both ys (at + n * w) n u [] zs inside next m p))
+        (laying_more room at w gives xs both ys (at + n * w) n u [] zs inside next m p))

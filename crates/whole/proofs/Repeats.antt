@@ -1,5 +1,5 @@
 -- Cells that occur once (RK).
---     once-again, once-next, once_none     the first cell of a column stands again further down, or does not
+--     once_again, once_next, once_none     the first cell of a column stands again further down, or does not
 --     rises_once                           a column that rises holds no cell twice
 use Prim.Native.Nat.{ℕ, ◌+◌, ◌-◌, ◌<◌}
 use mathlib.Core.Path.{◌≡◌, refl, ap, ap₂, ◌∙◌}
@@ -16,26 +16,26 @@ use Rattle.laws.proofs.Lists.{all_map}
 use Rattle.laws.proofs.Booleans.{both_true}
 use Rattle.meaning.specs.Operators.{column, once}
 use Rattle.tables.specs.Order.{rises}
-use Rattle.tables.proofs.Cells.{column-head, column_none}
+use Rattle.tables.proofs.Cells.{column_head, column_none}
 
 module _ (xs : List ℤ) (a n w c : ℕ) (inside : c < w) where
   module _ (h : 0 < n) where
-    once-split :
+    once_split :
         once (column (rows_at xs a n w) c)
         ≡ (not (any (same (get_or xs (a + c) (pos 0))) (column (rows_at xs (a + w) (n - 1) w) c))
         && once (column (rows_at xs (a + w) (n - 1) w) c))
     unfolding once
-    once-split = ap once (column-head xs a n w c inside h)
+    once_split = ap once (column_head xs a n w c inside h)
 
-    pub once-again :
+    pub once_again :
         any (same (get_or xs (a + c) (pos 0))) (column (rows_at xs (a + w) (n - 1) w) c) ≡ true →
         once (column (rows_at xs a n w) c) ≡ false
-    once-again e = once-split ∙ ap (λ (t : Bool). not t && once (column (rows_at xs (a + w) (n - 1) w) c)) e
+    once_again e = once_split ∙ ap (λ (t : Bool). not t && once (column (rows_at xs (a + w) (n - 1) w) c)) e
 
-    pub once-next :
+    pub once_next :
         any (same (get_or xs (a + c) (pos 0))) (column (rows_at xs (a + w) (n - 1) w) c) ≡ false →
         once (column (rows_at xs a n w) c) ≡ once (column (rows_at xs (a + w) (n - 1) w) c)
-    once-next e = once-split ∙ ap (λ (t : Bool). not t && once (column (rows_at xs (a + w) (n - 1) w) c)) e
+    once_next e = once_split ∙ ap (λ (t : Bool). not t && once (column (rows_at xs (a + w) (n - 1) w) c)) e
 
   pub once_none : n ≡ 0 → once (column (rows_at xs a n w) c) ≡ true
   unfolding once

@@ -2,8 +2,8 @@
 --     deep, unsound            there is a tree, so the depth left is not 0, and there is a record
 --     headed                   the record's fields are in their ranges
 --     open-room .. close_room, operands_asked     room for each piece of an expression's text
---     expression-makes         the pieces, one after another, are the expression's text
---     none-makes, one_asked .. three-makes        the operands of a record, by how many there are
+--     expression_makes         the pieces, one after another, are the expression's text
+--     none_makes, one_asked .. three_makes        the operands of a record, by how many there are
 --     first_asked .. two_made, choice_asked .. choice_made      two operands, and three, one after another
 use Prim.Native.Nat.{ℕ, ◌+◌, ◌-◌, ◌^◌, ◌<◌}
 use mathlib.Core.Path.{◌≡◌, sym, ap, ◌∙◌, subst}
@@ -16,7 +16,7 @@ use Rattle.laws.specs.Attempt.{gives}
 use Rattle.laws.proofs.Outcomes.{fails_gives}
 use Rattle.meaning.specs.Query.{Query, record_of as recordIn}
 use Rattle.pen.specs.Penned.{Pens}
-use Rattle.pen.proofs.Putting.{pens_none, pens-more, pens-as}
+use Rattle.pen.proofs.Putting.{pens_none, pens_more, pens_as}
 use Rattle.grammar.specs.Words.{else_word}
 use Rattle.grammar.specs.Grammar.{Level, expr, single}
 use Rattle.grammar.specs.Written.{looser, opening, closing, enclosed, spaced, then_text, text_of}
@@ -29,23 +29,23 @@ use Rattle.query_records.specs.declared.Operands.TheVariants as Operands
 use Rattle.query_records.specs.Decoded.{Means, record_of, operands_of}
 use Rattle.query_records.proofs.Callers.{found_sound, found_small}
 use Rattle.query_walks.specs.Parse.{Parsed, trees, parse}
-use Rattle.query_walks.proofs.Callers.{unfound_parses, found-parses, shallow_parses}
+use Rattle.query_walks.proofs.Callers.{unfound_parses, found_parses, shallow_parses}
 use Rattle.levels.specs.Levels.{own_of, first_of, second_of}
 use Rattle.phrases.specs.Phrases.{head_of, between_of, tail_of, Headed}
 use Rattle.wording.specs.declared.Spot.{Spot}
 use Rattle.wording.specs.Wording.{inner, pair_text, choice_text, Asked, AskedOperands, AskedTwo, AskedThree}
 use Rattle.wording.specs.Wording.{Makes, MakesOperands, MakesTwo, MakesThree, Lays}
-use Rattle.wording.proofs.Laying.{trees-whole, trees-lays}
+use Rattle.wording.proofs.Laying.{trees_whole, trees_lays}
 
 -- The pieces of an expression's text
 
 -- how long they are together
-enclosed-length :
+enclosed_length :
     (b : Bool) (h i t : List ℕ) →
     length (enclosed b (h ++ (i ++ t)))
     ≡ length (opening b) + (length h + (length i + length t)) + length (closing b)
 unfolding enclosed
-enclosed-length b h i t =
+enclosed_length b h i t =
     omega (
       arith,
       length-append (opening b) ((h ++ (i ++ t)) ++ closing b),
@@ -72,11 +72,11 @@ module _ (bs : List ℕ) (at d : ℕ) (l : Level) (end : ℕ) (h : Asked (parse 
       parses :
           (z : Query × ℕ) → parse d bs at ≡ gives z →
           trees (parse (d - 1) bs) at f.next (record_of f.kind) ≡ gives z
-      parses z p = sym (found-parses bs at r m f s d deep) ∙ p
+      parses z p = sym (found_parses bs at r m f s d deep) ∙ p
 
       pieces : (z : Query × ℕ) → parse d bs at ≡ gives z → text_of l z.0 ≡ enclosed g (own (inner z.0))
       pieces z p =
-          trees-whole l f.kind (parse (d - 1) bs) at f.next z (parses z p)
+          trees_whole l f.kind (parse (d - 1) bs) at f.next z (parses z p)
           ∙ ap (λ (b : Bool). enclosed b (own (inner z.0))) (sym e)
 
       long :
@@ -87,7 +87,7 @@ module _ (bs : List ℕ) (at d : ℕ) (l : Level) (end : ℕ) (h : Asked (parse 
           + length (closing g)
       long =
           ap length (pieces h.found h.given)
-          ∙ enclosed-length g (head_of (record_of f.kind)) (inner h.found.0) (tail_of (record_of f.kind))
+          ∙ enclosed_length g (head_of (record_of f.kind)) (inner h.found.0) (tail_of (record_of f.kind))
 
       pub headed : Headed f.kind
       headed = record { ranged = (found_sound bs at r m f s).ranged; small = found_small bs at r m f s }
@@ -122,16 +122,16 @@ module _ (bs : List ℕ) (at d : ℕ) (l : Level) (end : ℕ) (h : Asked (parse 
               pub close_room : n + 1 < 2 ^ 64
               close_room = omega (arith, h.room, long, o.ends, hd.ends, ends, ta.ends)
 
-              pub expression-makes :
+              pub expression_makes :
                   {w : List ℕ} {k : ℕ} → Pens n (closing g) v w k →
                   Makes (parse d bs at) (text_of l) x end w (record { next = t.next; end = k })
               unfolding enclosed
-              expression-makes c =
+              expression_makes c =
                   record {
                     wrote = λ z' p'.
-                        pens-as (sym (pieces z' p'))
-                        (pens-more o
-                        (pens-more (pens-more hd (pens-more ((i.made at).wrote z' (parses z' p')) ta)) c));
+                        pens_as (sym (pieces z' p'))
+                        (pens_more o
+                        (pens_more (pens_more hd (pens_more ((i.made at).wrote z' (parses z' p')) ta)) c));
                     after = λ z' p'. (i.made at).after z' (parses z' p');
                   }
 
@@ -142,7 +142,7 @@ module _
     (e : o ≡ operands_of (record_of k)) (d : o ≡ p) where
   lays : (place : ℕ) (z : Query × ℕ) → trees rd place at (record_of k) ≡ gives z → Lays rd at p k z
   lays place z t =
-      subst (λ (o : Operands). Lays rd at o k z) (sym e ∙ d) (trees-lays k rd place at z t)
+      subst (λ (o : Operands). Lays rd at o k z) (sym e ∙ d) (trees_lays k rd place at z t)
 
 module _ (rd : ℕ → Parsed) (at : ℕ) (k : Record) (o : Operands) (e : o ≡ operands_of (record_of k)) where
   -- no operand
@@ -153,21 +153,21 @@ module _ (rd : ℕ → Parsed) (at : ℕ) (k : Record) (o : Operands) (e : o ≡
   nothing_makes p x end d g =
       record {
         made = λ place. record {
-          wrote = λ z t. pens-as (sym (g z (lays rd at k o p e d place z t)).1) (pens_none x end);
+          wrote = λ z t. pens_as (sym (g z (lays rd at k o p e d place z t)).1) (pens_none x end);
           after = λ z t. (g z (lays rd at k o p e d place z t)).0;
         };
       }
 
-  pub none-makes :
+  pub none_makes :
       (x : List ℕ) (end : ℕ) → o ≡ Operands.None → MakesOperands rd at k x end x (record { next = at; end = end })
   unfolding Lays
-  none-makes x end d = nothing_makes Operands.None x end d (λ z t. t)
+  none_makes x end d = nothing_makes Operands.None x end d (λ z t. t)
 
-  pub variable-makes :
+  pub variable_makes :
       (v : ℕ) (x : List ℕ) (end : ℕ) → o ≡ Operands.Variable v →
       MakesOperands rd at k x end x (record { next = at; end = end })
   unfolding Lays
-  variable-makes v x end d = nothing_makes (Operands.Variable v) x end d (λ z t. t)
+  variable_makes v x end d = nothing_makes (Operands.Variable v) x end d (λ z t. t)
 
   -- one operand, at the level that is its own
   module _ (d : o ≡ Operands.One) (l : Level) (s : l ≡ first_of k) where
@@ -179,15 +179,15 @@ module _ (rd : ℕ → Parsed) (at : ℕ) (k : Record) (o : Operands) (e : o ≡
         let f : inner z.0 ≡ text_of l a.0 = t ∙ ap (λ (l : Level). text_of l a.0) (sym s) in
         record { found = a; given = p; room = omega (arith, h.asked.room, ap length f) }
 
-    pub one-makes :
+    pub one_makes :
         {x y : List ℕ} {end : ℕ} {r : Spot} → Makes (rd at) (text_of l) x end y r → MakesOperands rd at k x end y r
     unfolding Lays
-    one-makes m =
+    one_makes m =
         record {
           made = λ place. record {
             wrote = λ z t.
                 let (a, p, n, f) = lays rd at k o Operands.One e d place z t in
-                pens-as (ap (λ (l : Level). text_of l a.0) s ∙ sym f) (m.wrote a p);
+                pens_as (ap (λ (l : Level). text_of l a.0) s ∙ sym f) (m.wrote a p);
             after = λ z t.
                 let (a, p, n, f) = lays rd at k o Operands.One e d place z t in
                 m.after a p ∙ n;
@@ -214,14 +214,14 @@ module _ (rd : ℕ → Parsed) (at : ℕ) (k : Record) (o : Operands) (e : o ≡
           room = omega (arith, h.asked.room, ap length t);
         }
 
-    both-makes :
+    both_makes :
         {x y : List ℕ} {end : ℕ} {r : Spot} → MakesTwo rd at k x end y r → MakesOperands rd at k x end y r
-    both-makes m =
+    both_makes m =
         record {
           made = λ place. record {
             wrote = λ z t.
                 let (a, b, u, v, n, f) = g z (lays rd at k o p e d place z t) in
-                pens-as (sym f) (m.wrote a b u v);
+                pens_as (sym f) (m.wrote a b u v);
             after = λ z t.
                 let (a, b, u, v, n, f) = g z (lays rd at k o p e d place z t) in
                 m.after a b u v ∙ n;
@@ -233,20 +233,20 @@ module _ (rd : ℕ → Parsed) (at : ℕ) (k : Record) (o : Operands) (e : o ≡
     unfolding Lays
     two_asked end h = both_asked Operands.Two d (λ z t. t) end h
 
-    pub two-makes :
+    pub two_makes :
         {x y : List ℕ} {end : ℕ} {r : Spot} → MakesTwo rd at k x end y r → MakesOperands rd at k x end y r
     unfolding Lays
-    two-makes m = both-makes Operands.Two d (λ z t. t) m
+    two_makes m = both_makes Operands.Two d (λ z t. t) m
 
   module _ (v : ℕ) (d : o ≡ Operands.Binding v) where
     pub binding_asked : (end : ℕ) → AskedOperands rd at k end → AskedTwo rd at k end
     unfolding Lays
     binding_asked end h = both_asked (Operands.Binding v) d (λ z t. t) end h
 
-    pub binding-makes :
+    pub binding_makes :
         {x y : List ℕ} {end : ℕ} {r : Spot} → MakesTwo rd at k x end y r → MakesOperands rd at k x end y r
     unfolding Lays
-    binding-makes m = both-makes (Operands.Binding v) d (λ z t. t) m
+    binding_makes m = both_makes (Operands.Binding v) d (λ z t. t) m
 
   -- three operands
   module _ (d : o ≡ Operands.Three) where
@@ -265,15 +265,15 @@ module _ (rd : ℕ → Parsed) (at : ℕ) (k : Record) (o : Operands) (e : o ≡
           room = omega (arith, h.asked.room, ap length t);
         }
 
-    pub three-makes :
+    pub three_makes :
         {x y : List ℕ} {end : ℕ} {r : Spot} → MakesThree rd at x end y r → MakesOperands rd at k x end y r
     unfolding Lays
-    three-makes m =
+    three_makes m =
         record {
           made = λ place. record {
             wrote = λ z t.
                 let (c, a, b, u, v, w, n, f) = lays rd at k o Operands.Three e d place z t in
-                pens-as (sym f) (m.wrote c a b u v w);
+                pens_as (sym f) (m.wrote c a b u v w);
             after = λ z t.
                 let (c, a, b, u, v, w, n, f) = lays rd at k o Operands.Three e d place z t in
                 m.after c a b u v w ∙ n;
@@ -287,12 +287,12 @@ onward : (rd : ℕ → Parsed) (n m : ℕ) (z : Query × ℕ) → n ≡ m → rd
 onward rd n m z e p = ap rd e ∙ p
 
 module _ (rd : ℕ → Parsed) (at : ℕ) (k : Record) (end : ℕ) (h : AskedTwo rd at k end) where
-  pair-long :
+  pair_long :
       length (pair_text k h.a.0 h.b.0)
       ≡ length (text_of (first_of k) h.a.0)
       + (length (between_of (record_of k)) + length (text_of (second_of k) h.b.0))
   unfolding pair_text
-  pair-long =
+  pair_long =
       omega (
         arith,
         length-append (text_of (first_of k) h.a.0) (between_of (record_of k) ++ text_of (second_of k) h.b.0),
@@ -303,7 +303,7 @@ module _ (rd : ℕ → Parsed) (at : ℕ) (k : Record) (end : ℕ) (h : AskedTwo
     pub first_asked : Asked (rd at) (text_of l) end
     first_asked =
         let f = ap (λ (l : Level). length (text_of l h.a.0)) s in
-        record { found = h.a; given = h.first; room = omega (arith, h.room, pair-long, f) }
+        record { found = h.a; given = h.first; room = omega (arith, h.room, pair_long, f) }
 
     module _ {x y : List ℕ} {r : Spot} (m : Makes (rd at) (text_of l) x end y r) where
       first_ends : r.end ≡ end + length (text_of (first_of k) h.a.0)
@@ -312,7 +312,7 @@ module _ (rd : ℕ → Parsed) (at : ℕ) (k : Record) (end : ℕ) (h : AskedTwo
           omega (arith, (m.wrote h.a h.first).ends, f)
 
       pub between_room : r.end + 64 < 2 ^ 64
-      between_room = omega (arith, h.room, pair-long, first_ends)
+      between_room = omega (arith, h.room, pair_long, first_ends)
 
       module _ {z : List ℕ} {n : ℕ} (p : Pens r.end (between_of (record_of k)) y z n) where
         module _ (l' : Level) (s' : l' ≡ second_of k) where
@@ -322,7 +322,7 @@ module _ (rd : ℕ → Parsed) (at : ℕ) (k : Record) (end : ℕ) (h : AskedTwo
               record {
                 found = h.b;
                 given = onward rd r.next h.a.1 h.b (m.after h.a h.first) h.second;
-                room = omega (arith, h.room, pair-long, first_ends, p.ends, f);
+                room = omega (arith, h.room, pair_long, first_ends, p.ends, f);
               }
 
           pub two_made :
@@ -331,9 +331,9 @@ module _ (rd : ℕ → Parsed) (at : ℕ) (k : Record) (end : ℕ) (h : AskedTwo
           two_made o =
               record {
                 wrote = λ a b u v.
-                    pens-more (pens-as (ap (λ (l : Level). text_of l a.0) s) (m.wrote a u))
-                    (pens-more p
-                    (pens-as (ap (λ (l : Level). text_of l b.0) s')
+                    pens_more (pens_as (ap (λ (l : Level). text_of l a.0) s) (m.wrote a u))
+                    (pens_more p
+                    (pens_as (ap (λ (l : Level). text_of l b.0) s')
                     (o.wrote b (onward rd r.next a.1 b (m.after a u) v))));
                 after = λ a b u v. o.after b (onward rd r.next a.1 b (m.after a u) v);
               }
@@ -341,12 +341,12 @@ module _ (rd : ℕ → Parsed) (at : ℕ) (k : Record) (end : ℕ) (h : AskedTwo
 -- Three operands, one after another
 
 module _ (rd : ℕ → Parsed) (at end : ℕ) (h : AskedThree rd at end) where
-  choice-long :
+  choice_long :
       length (choice_text h.c.0 h.a.0 h.b.0)
       ≡ length (text_of expr h.c.0)
       + (7 + (length (text_of single h.a.0) + (6 + length (text_of single h.b.0))))
   unfolding choice_text
-  choice-long =
+  choice_long =
       let last = spaced else_word ++ text_of single h.b.0 in
       omega (
         arith,
@@ -355,11 +355,11 @@ module _ (rd : ℕ → Parsed) (at end : ℕ) (h : AskedThree rd at end) where
       )
 
   pub choice_asked : Asked (rd at) (text_of expr) end
-  choice_asked = record { found = h.c; given = h.first; room = omega (arith, h.room, choice-long) }
+  choice_asked = record { found = h.c; given = h.first; room = omega (arith, h.room, choice_long) }
 
   module _ {x y : List ℕ} {r : Spot} (m : Makes (rd at) (text_of expr) x end y r) where
     pub then_room : r.end + 7 < 2 ^ 64
-    then_room = omega (arith, h.room, choice-long, (m.wrote h.c h.first).ends)
+    then_room = omega (arith, h.room, choice_long, (m.wrote h.c h.first).ends)
 
     second_read : rd r.next ≡ gives h.a
     second_read = onward rd r.next h.c.1 h.a (m.after h.c h.first) h.second
@@ -370,7 +370,7 @@ module _ (rd : ℕ → Parsed) (at end : ℕ) (h : AskedThree rd at end) where
           record {
             found = h.a;
             given = second_read;
-            room = omega (arith, h.room, choice-long, (m.wrote h.c h.first).ends, p.ends);
+            room = omega (arith, h.room, choice_long, (m.wrote h.c h.first).ends, p.ends);
           }
 
       module _ {u : List ℕ} {t : Spot} (o : Makes (rd r.next) (text_of single) z n u t) where
@@ -379,7 +379,7 @@ module _ (rd : ℕ → Parsed) (at end : ℕ) (h : AskedThree rd at end) where
 
         pub else_room : t.end + 6 < 2 ^ 64
         else_room =
-            omega (arith, h.room, choice-long, (m.wrote h.c h.first).ends, p.ends, branch_ends)
+            omega (arith, h.room, choice_long, (m.wrote h.c h.first).ends, p.ends, branch_ends)
 
         module _ {v : List ℕ} {j : ℕ} (q : Pens t.end (spaced else_word) u v j) where
           pub other_asked : Asked (rd t.next) (text_of single) j
@@ -391,7 +391,7 @@ module _ (rd : ℕ → Parsed) (at end : ℕ) (h : AskedThree rd at end) where
                     omega (
                       arith,
                       h.room,
-                      choice-long,
+                      choice_long,
                       (m.wrote h.c h.first).ends,
                       p.ends,
                       branch_ends,
@@ -412,8 +412,8 @@ module _ (rd : ℕ → Parsed) (at end : ℕ) (h : AskedThree rd at end) where
               in
               record {
                 wrote = λ c a d e f g.
-                    pens-more (m.wrote c e)
-                    (pens-more p
-                    (pens-more (o.wrote a (second c a e f)) (pens-more q (b.wrote d (third c a d e f g)))));
+                    pens_more (m.wrote c e)
+                    (pens_more p
+                    (pens_more (o.wrote a (second c a e f)) (pens_more q (b.wrote d (third c a d e f g)))));
                 after = λ c a d e f g. b.after d (third c a d e f g);
               }

@@ -1,7 +1,7 @@
 -- QI: what `choice` promises.
---     choice-stopped      its condition is refused
---     choice-untrue       its condition has no truth
---     choice-chosen       the chosen branch; the other is passed over
+--     choice_stopped      its condition is refused
+--     choice_untrue       its condition has no truth
+--     choice_chosen       the chosen branch; the other is passed over
 --     branch_worked, branch_passed     a branch that is chosen, and one that is not
 use Prim.Native.Nat.{ℕ, ◌-◌}
 use mathlib.Core.Path.{◌≡◌, refl, sym, ◌∙◌, ap, subst}
@@ -19,36 +19,36 @@ use Rattle.meaning.specs.Query as Query
 use Rattle.meaning.specs.Meaning.{Env}
 use Rattle.meaning.specs.Counted.{Standing, stand, evaluate}
 use Rattle.query_walks.specs.Parse.{Parsed, trees, Past}
-use Rattle.query_walks.proofs.Parsing.{triple-gives}
+use Rattle.query_walks.proofs.Parsing.{triple_gives}
 use Rattle.stack.specs.declared.Stood.{Stood}
 use Rattle.stack.specs.declared.Stood.TheVariants as Stood
 use Rattle.stack.specs.Stack.{stood, Ends, At, raising, Leaves}
 use Rattle.stack.specs.Moves.{raised}
-use Rattle.stack.proofs.Leaving.{leaves-raised}
+use Rattle.stack.proofs.Leaving.{leaves_raised}
 use Rattle.stack.specs.contracts.Stood.{the_type}
 use Rattle.working_parts.specs.declared.Scope.{Scope}
 use Rattle.working_parts.specs.Scopes.{Scoped, HoldsEnv}
 use Rattle.working_parts.specs.Endings.{ending_at}
 use Rattle.working.specs.Evaluating.{Works, Branches}
 use Rattle.working_parts.proofs.Scoping.{holds_kept}
-use Rattle.working.proofs.Working.{works-leaves, works-stopped}
+use Rattle.working.proofs.Working.{works_leaves, works_stopped}
 
 -- what an operand leaves, and the same with another end
-leaves-worked :
+leaves_worked :
     (w : World) (t : Parsed) (top room : ℕ) (s : Scope) (before after : List ℤ) (m : Stood) →
     Works w t top room s before after m → Leaves top room (stood after top m) (Ends m) before after m
-leaves-worked w t top room s before after m g =
+leaves_worked w t top room s before after m g =
     record { kept = g.kept; fit = g.fit; stands = refl; ends = λ e h. h }
 
-leaves-ending :
+leaves_ending :
     (top room n : ℕ) (o : Work Standing) (E : ℕ → Type 0) (before after : List ℤ) (m : Stood) →
     Leaves top room o E before after m → Leaves top room o (At n) before after (ending_at n m)
 unfolding ending_at stood
-leaves-ending top room n o E before after (Stood.Items l k e) g =
+leaves_ending top room n o E before after (Stood.Items l k e) g =
     record { kept = g.kept; fit = g.fit; stands = g.stands; ends = λ e h. h }
-leaves-ending top room n o E before after (Stood.Full p) g =
+leaves_ending top room n o E before after (Stood.Full p) g =
     record { kept = g.kept; fit = tt; stands = g.stands; ends = λ e h. tt }
-leaves-ending top room n o E before after (Stood.Failed p) g =
+leaves_ending top room n o E before after (Stood.Failed p) g =
     record { kept = g.kept; fit = tt; stands = g.stands; ends = λ e h. tt }
 
 module _ (w : World) (t : Parsed) (top room : ℕ) (s : Scope) (before after : List ℤ) (b : Bool) (m : Stood) where
@@ -59,14 +59,14 @@ module _ (w : World) (t : Parsed) (top room : ℕ) (s : Scope) (before after : L
   branch_passed h g = record { worked = λ e. clash e h; passed = λ e. g }
 
 module _ (w : World) (rd : ℕ → Parsed) (place at top room : ℕ) (s : Scope) (before mid : List ℤ) where
-  pub choice-stopped :
+  pub choice_stopped :
       (m : Stood) → OneOf (1 ∷ 2 ∷ []) (tag_of the_type m) → Works w (rd at) top room s before mid m →
       Works w (trees rd place at Query.choice) top room s before mid m
   unfolding trees evaluate
-  choice-stopped m h g =
-      works-stopped w _ (rd at) top room s before mid m h g
+  choice_stopped m h g =
+      works_stopped w _ (rd at) top room s before mid m h g
       (λ z c.
-      let (x, a, b, p, i, j, d) = triple-gives (QI place) (rd at) rd rd z c in
+      let (x, a, b, p, i, j, d) = triple_gives (QI place) (rd at) rd rd z c in
       (x, p, λ e. (_, ap (λ (z : Query × ℕ). evaluate w (room - top) e z.0) d)))
 
   -- what is done with the truth of the condition, where k stood
@@ -85,16 +85,16 @@ module _ (w : World) (rd : ℕ → Parsed) (place at top room : ℕ) (s : Scope)
         ap (λ (o : Work Standing). work o (λ s. judged s.count e y.0 z.0 (w.truth s.items)))
         (g.means e h x p).stands
 
-    pub choice-untrue :
+    pub choice_untrue :
         w.truth (row mid top l) ≡ fails →
         Works w (trees rd place at Query.choice) top room s before mid (Stood.Failed place)
     unfolding trees trying stood
-    choice-untrue f =
+    choice_untrue f =
         record {
           kept = g.kept;
           fit = tt;
           means = λ e h z c.
-              let (x, y, o, p, i, j, d) = triple-gives (QI place) (rd at) rd rd z c in
+              let (x, y, o, p, i, j, d) = triple_gives (QI place) (rd at) rd rd z c in
               record {
                 stands =
                     ap (judged k e y.0 o.0) (sym f)
@@ -112,12 +112,12 @@ module _ (w : World) (rd : ℕ → Parsed) (place at top room : ℕ) (s : Scope)
           Works w (trees rd place at Query.choice) top room s before after (raising k (ending_at end m))
       unfolding trees trying
       picked b after m f q =
-          works-leaves w _ top room s before after mid _ (raised k (stood after top m)) (At end)
-          (leaves-raised top room (At end) mid after k (stood after top m) (ending_at end m) g.fit.1
-          (leaves-ending top room end _ (Ends m) mid after m (leaves-worked w _ top room s mid after m q)))
+          works_leaves w _ top room s before after mid _ (raised k (stood after top m)) (At end)
+          (leaves_raised top room (At end) mid after k (stood after top m) (ending_at end m) g.fit.1
+          (leaves_ending top room end _ (Ends m) mid after m (leaves_worked w _ top room s mid after m q)))
           g.kept
           (λ e h z c.
-          let (x, y, o, p, i, j, d) = triple-gives (QI place) (rd at) rd rd z c in
+          let (x, y, o, p, i, j, d) = triple_gives (QI place) (rd at) rd rd z c in
           let here : rd n ≡ gives y = ap rd (g.means e h x p).ends ∙ i in
           let there : rd past ≡ gives o = ap rd (u y here) ∙ j in (
             ap (raised k) (stands b q e (holds_kept top s e before mid sc g.kept h) y o here there)
@@ -147,11 +147,11 @@ module _ (w : World) (rd : ℕ → Parsed) (place at top room : ℕ) (s : Scope)
           picked false after y f
           (subst (λ (c : List ℤ). Works w (rd past) top room s c after y) (p.passed refl) (q.worked refl))
 
-      pub choice-chosen :
+      pub choice_chosen :
           (b : Bool) (then after : List ℤ) (x y j o r : Stood) → w.truth (row mid top l) ≡ gives b →
           Branches b w (rd n) top room s mid then x → Branches (not b) w (rd past) top room s then after y →
           j ≡ cond b x y → o ≡ ending_at end j → r ≡ raising k o →
           Works w (trees rd place at Query.choice) top room s before after r
-      choice-chosen b then after x y j o r f p q i h is-raised =
+      choice_chosen b then after x y j o r f p q i h is-raised =
           subst (λ (r : Stood). Works w (trees rd place at Query.choice) top room s before after r)
           (sym (is-raised ∙ ap (raising k) (h ∙ ap (ending_at end) i))) (chosen b then after x y f p q)

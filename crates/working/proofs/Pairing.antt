@@ -2,8 +2,8 @@
 --     take_lower          what is kept up to a place is kept up to a lower one
 --     adds_room           what fits the room can be counted
 --     adds_stopped        and so can a refusal
---     pairs-stopped       the first operand is refused
---     pairs-both          the second is worked out behind the items of the first
+--     pairs_stopped       the first operand is refused
+--     pairs_both          the second is worked out behind the items of the first
 use Prim.Native.Nat.{ℕ, ◌+◌, ◌-◌, ◌^◌, ◌≤◌, ◌<◌, max}
 use mathlib.Core.Path.{◌≡◌, refl, sym, ◌∙◌, ap, subst}
 use mathlib.Core.List.{List, [], ◌∷◌}
@@ -30,7 +30,7 @@ use Rattle.working_parts.specs.declared.Scope.{Scope}
 use Rattle.working_parts.specs.declared.Binding.{Binding}
 use Rattle.working_parts.specs.Scopes.{Scoped, Bindable, scoping, binding}
 use Rattle.working.specs.Evaluating.{Works, behind, both, Pairs}
-use Rattle.working_parts.proofs.Scoping.{holds_kept, holds-bound}
+use Rattle.working_parts.proofs.Scoping.{holds_kept, holds_bound}
 
 -- the second operand's items behind those of the first
 abbrev onto : List ℤ → ℕ → Standing → Work Paired
@@ -73,10 +73,10 @@ module _ (w : World) (rd : ℕ → Parsed) (at : ℕ) (b : Binding) (top room : 
             record { stands = ap (λ (o : Work Standing). pairing o second) (g.means e k x c).stands; ends = tt };
       }
 
-  pub pairs-stopped :
+  pub pairs_stopped :
       (after : List ℤ) (m : Stood) (p : Pair) → OneOf (1 ∷ 2 ∷ []) (tag_of the_type m) →
       Works w (rd at) top room s before after m → p ≡ besiding 0 0 m → Pairs w rd at b top room s before after p
-  pairs-stopped after m p h g e =
+  pairs_stopped after m p h g e =
       subst (λ (p : Pair). Pairs w rd at b top room s before after p) (sym e) (stopped after m h g)
 
   module _
@@ -123,7 +123,7 @@ module _ (w : World) (rd : ℕ → Parsed) (at : ℕ) (b : Binding) (top room : 
             fit = fits m h.fit;
             means = λ e q x y c d.
                 let first = g.means e q x c in
-                let holds = holds-bound top top l s b e mid (row mid top l) i j refl
+                let holds = holds_bound top top l s b e mid (row mid top l) i j refl
                 (holds_kept top s e before mid i g.kept q) in
                 let second = h.means (binding b (row mid top l) e) holds y (ap rd first.ends ∙ d) in
                 let left : room - (top + l) ≡ room - top - length (row mid top l) = omega (arith, wide) in
@@ -136,12 +136,12 @@ module _ (w : World) (rd : ℕ → Parsed) (at : ℕ) (b : Binding) (top room : 
                 };
           }
 
-  pub pairs-both :
+  pub pairs_both :
       (mid after : List ℤ) (l k n : ℕ) (r m : Stood) (p : Pair) (seen : Scope) → r ≡ Stood.Items l k n →
       seen ≡ scoping s b top l → p ≡ besiding l k m → Scoped top s → Bindable b → room ≤ length mid →
       Works w (rd at) top room s before mid r → Works w (rd n) (top + l) room seen mid after m →
       Pairs w rd at b top room s before after p
-  pairs-both mid after l k n r m p seen c d e i j long g h =
+  pairs_both mid after l k n r m p seen c d e i j long g h =
       subst (λ (p : Pair). Pairs w rd at b top room s before after p) (sym e)
       (beside mid l k n (subst (λ (r : Stood). Works w (rd at) top room s before mid r) c g) i j long after m
       (subst (λ (s : Scope). Works w (rd n) (top + l) room s mid after m) d h))

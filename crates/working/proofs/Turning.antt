@@ -3,11 +3,11 @@
 --                         give
 --     turning_start       before the first turn
 --     turning_scoped      a turn's scope stands below its top
---     turning-on          a turn whose results stand behind those so far
---     turning-stopped     a turn that is refused
---     turning-end         no turn is left
---     for-stopped         QF, whose first operand is refused
---     for-turned          QF, from its turns
+--     turning_on          a turn whose results stand behind those so far
+--     turning_stopped     a turn that is refused
+--     turning_end         no turn is left
+--     for_stopped         QF, whose first operand is refused
+--     for_turned          QF, from its turns
 use Prim.Native.Nat.{ℕ, suc, ◌+◌, ◌-◌, ◌≤◌, ◌<◌, max}
 use mathlib.Core.Path.{◌≡◌, refl, sym, ◌∙◌, ap, ap₂, subst}
 use mathlib.Core.List.{List, [], ◌∷◌, ◌++◌}
@@ -28,7 +28,7 @@ use Rattle.meaning.specs.Query as Query
 use Rattle.meaning.specs.Meaning.{Env, bind}
 use Rattle.meaning.specs.Counted.{Standing, stand, evaluate, loop}
 use Rattle.query_walks.specs.Parse.{Parsed, trees, Past}
-use Rattle.query_walks.proofs.Parsing.{pair-gives}
+use Rattle.query_walks.proofs.Parsing.{pair_gives}
 use Rattle.stack.specs.declared.Stood.{Stood}
 use Rattle.stack.specs.declared.Stood.TheVariants as Stood
 use Rattle.stack.specs.declared.Pair.{Pair}
@@ -42,9 +42,9 @@ use Rattle.working_parts.specs.declared.Scope.{Scope}
 use Rattle.working_parts.specs.declared.Binding.TheVariants.{Variable}
 use Rattle.working_parts.specs.Scopes.{Scoped, HoldsEnv, scoping, binding}
 use Rattle.working.specs.Evaluating.{Works, turn, Turns}
-use Rattle.working_parts.proofs.Scoping.{scoped_more, scoped-bound, holds_kept, holds-bound}
+use Rattle.working_parts.proofs.Scoping.{scoped_more, scoped_bound, holds_kept, holds_bound}
 use Rattle.working.proofs.Pairing.{take_lower}
-use Rattle.working.proofs.Working.{works-leaves, works-stopped}
+use Rattle.working.proofs.Working.{works_leaves, works_stopped}
 
 -- a row's first member, and the others
 row_cons :
@@ -90,7 +90,7 @@ module _ (w : World) (t : Parsed) (v top room n count : ℕ) (s : Scope) (before
     where
       pub turning_scoped : Scoped (top + n + got) (scoping s (Variable v) (top + i) 1)
       turning_scoped =
-          scoped-bound (top + n + got) (top + i) 1 s (Variable v) few (omega arith)
+          scoped_bound (top + n + got) (top + i) 1 s (Variable v) few (omega arith)
           (scoped_more top (top + n + got) s (omega arith) sc)
 
       module _
@@ -113,7 +113,7 @@ module _ (w : World) (t : Parsed) (v top room n count : ℕ) (s : Scope) (before
               let one : row cells (top + i) 1 ≡ a ∷ [] =
               row_kept before cells (top + n) (top + i) 1 (omega arith) inv.kept
               ∙ row_cons before (top + i) 1 0 (pos 0) (omega (arith, inv.above, inv.within)) refl in
-              let holds = holds-bound top (top + i) 1 s (Variable v) e cells (a ∷ []) sc few one
+              let holds = holds_bound top (top + i) 1 s (Variable v) e cells (a ∷ []) sc few one
               (holds_kept top s e before cells sc low h) in
               let size : length results ≡ got = length_row cells (top + n) got
               (omega (arith, inv.above, inv.within, inv.long)) in
@@ -155,11 +155,11 @@ module _ (w : World) (t : Parsed) (v top room n count : ℕ) (s : Scope) (before
                 ∙ turned after (Stood.Items l k next) g e h x p;
           }
 
-      pub turning-on :
+      pub turning_on :
           (after : List ℤ) (m : Stood) (seen : Scope) (l k next more : ℕ) → m ≡ Stood.Items l k next →
           seen ≡ scoping s (Variable v) (top + i) 1 → more ≡ max most (n + got + k) → length after ≡ length cells →
           Works w t (top + n + got) room seen cells after m → Turning (i + 1) (got + l) more after
-      turning-on after m seen l k next more c d e q g =
+      turning_on after m seen l k next more c d e q g =
           subst (λ (k : ℕ). Turning (i + 1) (got + l) k after) (sym e)
           (on after l k next q
           (subst (λ (s : Scope). Works w t (top + n + got) room s cells after (Stood.Items l k next)) d
@@ -190,19 +190,19 @@ module _ (w : World) (t : Parsed) (v top room n count : ℕ) (s : Scope) (before
             means = turned after (Stood.Failed p) g;
           }
 
-      pub turning-stopped :
+      pub turning_stopped :
           (after : List ℤ) (next : ℕ) (m : Stood) (seen : Scope) (p : Pair) → OneOf (1 ∷ 2 ∷ []) (tag_of the_type m) →
           seen ≡ scoping s (Variable v) (top + i) 1 → p ≡ besiding 0 0 m →
           Works w t (top + n + got) room seen cells after m → Turns w t v top room n count next s before after p
-      turning-stopped after next m seen p h d e g =
+      turning_stopped after next m seen p h d e g =
           subst (λ (p : Pair). Turns w t v top room n count next s before after p) (sym e)
           (stopped after next m h (subst (λ (s : Scope). Works w t (top + n + got) room s cells after m) d g))
 
-  pub turning-end :
+  pub turning_end :
       (next i got most : ℕ) (cells : List ℤ) → i ≡ n → Turning i got most cells →
       Turns w t v top room n count next s before cells (Pair.Items n got most next)
   unfolding Moves.kept paired loop row work
-  turning-end next i got most cells d inv =
+  turning_end next i got most cells d inv =
       record {
         kept = take_lower top (top + n) before cells (omega arith) inv.kept;
         fit = (inv.above, inv.within);
@@ -215,30 +215,30 @@ module _ (w : World) (t : Parsed) (v top room n count : ℕ) (s : Scope) (before
 -- QF: a's items, then its turns
 
 module _ (w : World) (rd : ℕ → Parsed) (place at v top room : ℕ) (s : Scope) (before mid : List ℤ) where
-  pub for-stopped :
+  pub for_stopped :
       (m : Stood) → OneOf (1 ∷ 2 ∷ []) (tag_of the_type m) → Works w (rd at) top room s before mid m →
       Works w (trees rd place at (Query.for v)) top room s before mid m
   unfolding trees evaluate
-  for-stopped m h g =
-      works-stopped w _ (rd at) top room s before mid m h g
+  for_stopped m h g =
+      works_stopped w _ (rd at) top room s before mid m h g
       (λ z c.
-      let (x, y, p, q, d) = pair-gives (QF place v) (rd at) rd z c in
+      let (x, y, p, q, d) = pair_gives (QF place v) (rd at) rd z c in
       (x, p, λ e. (_, ap (λ (z : Query × ℕ). evaluate w (room - top) e z.0) d)))
 
-  pub for-turned :
+  pub for_turned :
       (l k n end : ℕ) (last after : List ℤ) (m : Stood) (p : Pair) (r : Stood) → m ≡ Stood.Items l k n → Scoped top s →
       room ≤ length mid → Works w (rd at) top room s before mid m → Past (rd n) end →
       Turns w (rd n) v top room l k end s mid last p →
       Leaves top room (Moves.kept (paired last top p)) (EndsPair p) last after r →
       Works w (trees rd place at (Query.for v)) top room s before after r
   unfolding trees evaluate stood stand work
-  for-turned l k n end last after m p r q sc le worked past u b =
+  for_turned l k n end last after m p r q sc le worked past u b =
       let g : Works w (rd at) top room s before mid (Stood.Items l k n) =
       subst (λ (m : Stood). Works w (rd at) top room s before mid m) q worked in
-      works-leaves w _ top room s before after last r (Moves.kept (paired last top p)) (EndsPair p) b
+      works_leaves w _ top room s before after last r (Moves.kept (paired last top p)) (EndsPair p) b
       (u.kept ∙ g.kept)
       (λ e h z c.
-      let (x, y, i, j, d) = pair-gives (QF place v) (rd at) rd z c in
+      let (x, y, i, j, d) = pair_gives (QF place v) (rd at) rd z c in
       let first = g.means e h x i in
       let here : rd n ≡ gives y = ap rd first.ends ∙ j in
       let size : length (row mid top l) ≡ l = length_row mid top l (omega (arith, g.fit.0, g.fit.1)) in (

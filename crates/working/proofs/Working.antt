@@ -1,15 +1,15 @@
 -- What working out a record promises, from what its operands promise.
---     works-leaves      what is left behind operands, where it is what the record's clause says
---     works-as          the same tree, written otherwise
---     works-leaf        a record without operands
---     works-nothing     no tree: nothing is promised of it
---     works-one         a record of one operand
---     works-two         a record of two operands, one behind the other
---     works-stopped     a record whose first operand is refused
+--     works_leaves      what is left behind operands, where it is what the record's clause says
+--     works_as          the same tree, written otherwise
+--     works_leaf        a record without operands
+--     works_nothing     no tree: nothing is promised of it
+--     works_one         a record of one operand
+--     works_two         a record of two operands, one behind the other
+--     works_stopped     a record whose first operand is refused
 --     fit_wider, fit_pair_wider    what fits the room fits the lent cells
---     leaves-joined     QS: both operands' items as those of one
+--     leaves_joined     QS: both operands' items as those of one
 --     leaves_none       QE: no item
---     number_is, values_is, step_is, join_is, keep_is, apply-is      the clauses of `evaluate`
+--     number_is, values_is, step_is, join_is, keep_is, apply_is      the clauses of `evaluate`
 use Prim.Native.Nat.{ℕ, ◌+◌, ◌-◌, ◌≤◌, max}
 use mathlib.Core.Path.{◌≡◌, refl, sym, ◌∙◌, ap, subst}
 use mathlib.Core.List.{List, [], ◌∷◌}
@@ -29,7 +29,7 @@ use Rattle.meaning.specs.Meaning.{Env}
 use Rattle.meaning.specs.Counted.{Standing, stand, evaluate}
 use Rattle.laws.proofs.Outcomes.{fails_gives, gives_same}
 use Rattle.query_walks.specs.Parse.{Parsed, lone, pair}
-use Rattle.query_walks.proofs.Parsing.{lone-gives, pair-gives}
+use Rattle.query_walks.proofs.Parsing.{lone_gives, pair_gives}
 use Rattle.stack.specs.declared.Stood.{Stood}
 use Rattle.stack.specs.declared.Stood.TheVariants as Stood
 use Rattle.stack.specs.declared.Pair.{Pair}
@@ -55,11 +55,11 @@ fit_pair_wider top room wider (Pair.Items l m k n) h f = (f.0, omega arith)
 fit_pair_wider top room wider (Pair.Full p) h f = tt
 fit_pair_wider top room wider (Pair.Failed p) h f = tt
 
-pub leaves-joined :
+pub leaves_joined :
     (top room : ℕ) (cells : List ℤ) (p : Pair) → FitPair top room p →
     Leaves top room (joined (paired cells top p)) (EndsPair p) cells cells (joining p)
 unfolding joining
-leaves-joined top room cells p f =
+leaves_joined top room cells p f =
     record { kept = refl; fit = fits p f; stands = stood_joined cells top p; ends = λ e h. ending p e h }
   where
     fits : (p : Pair) → FitPair top room p → Fit top room (joining p)
@@ -80,13 +80,13 @@ leaves_none top room n cells h =
 
 module _ (w : World) (t : Parsed) (top room : ℕ) (s : Scope) (before after : List ℤ) where
   -- what is left behind operands, where it is what the record's clause says
-  pub works-leaves :
+  pub works_leaves :
       (mid : List ℤ) (r : Stood) (o : Work Standing) (E : ℕ → Type 0) → Leaves top room o E mid after r →
       take top mid ≡ take top before →
       ((e : Env) → HoldsEnv before s e → (x : Query × ℕ) → t ≡ gives x →
       (o ≡ evaluate w (room - top) e x.0) × E x.1) →
       Works w t top room s before after r
-  works-leaves mid r o E l k h =
+  works_leaves mid r o E l k h =
       record {
         kept = l.kept ∙ k;
         fit = l.fit;
@@ -95,66 +95,66 @@ module _ (w : World) (t : Parsed) (top room : ℕ) (s : Scope) (before after : L
             record { stands = l.stands ∙ q.0; ends = l.ends x.1 q.1 };
       }
 
-  pub works-leaf :
+  pub works_leaf :
       (r : Stood) (q : Query) (n : ℕ) (o : Work Standing) → t ≡ gives (q, n) → Leaves top room o (At n) before after r →
       ((e : Env) → HoldsEnv before s e → o ≡ evaluate w (room - top) e q) → Works w t top room s before after r
-  works-leaf r q n o p l h =
-      works-leaves before r o (At n) l refl
+  works_leaf r q n o p l h =
+      works_leaves before r o (At n) l refl
       (λ e g x c.
       let d : (q, n) ≡ x = gives_same (sym p ∙ c) in
       (h e g ∙ ap (λ (y : Query × ℕ). evaluate w (room - top) e y.0) d, ap (λ (y : Query × ℕ). y.1) d))
 
-  pub works-one :
+  pub works_one :
       (mid : List ℤ) (m r : Stood) (q : Query → Query) (a : Parsed) (f : Work Standing → Work Standing) → t ≡ lone q a →
       ((e : Env) (p : Query) → f (evaluate w (room - top) e p) ≡ evaluate w (room - top) e (q p)) →
       Works w a top room s before mid m → Leaves top room (f (stood mid top m)) (Ends m) mid after r →
       Works w t top room s before after r
-  works-one mid m r q a f p h g l =
-      works-leaves mid r (f (stood mid top m)) (Ends m) l g.kept
+  works_one mid m r q a f p h g l =
+      works_leaves mid r (f (stood mid top m)) (Ends m) l g.kept
       (λ e k x c.
-      let (y, u, d) = lone-gives q a x (sym p ∙ c) in
+      let (y, u, d) = lone_gives q a x (sym p ∙ c) in
       let i = g.means e k y u in (
         ap f i.stands ∙ h e y.0 ∙ ap (λ (z : Query × ℕ). evaluate w (room - top) e z.0) d,
         subst (Ends m) (ap (λ (z : Query × ℕ). z.1) d) i.ends,
       ))
 
-  pub works-two :
+  pub works_two :
       (mid : List ℤ) (m : Pair) (r : Stood) (q : Query → Query → Query) (rd : ℕ → Parsed) (at : ℕ) (b : Binding)
       (f : Work Paired → Work Standing) → t ≡ pair q (rd at) rd →
       ((e : Env) (p p' : Query) → f (both w (room - top) e b p p') ≡ evaluate w (room - top) e (q p p')) →
       Pairs w rd at b top room s before mid m → Leaves top room (f (paired mid top m)) (EndsPair m) mid after r →
       Works w t top room s before after r
-  works-two mid m r q rd at b f p h g l =
-      works-leaves mid r (f (paired mid top m)) (EndsPair m) l g.kept
+  works_two mid m r q rd at b f p h g l =
+      works_leaves mid r (f (paired mid top m)) (EndsPair m) l g.kept
       (λ e k z c.
-      let (x, y, u, v, d) = pair-gives q (rd at) rd z (sym p ∙ c) in
+      let (x, y, u, v, d) = pair_gives q (rd at) rd z (sym p ∙ c) in
       let i = g.means e k x y u v in (
         ap f i.stands ∙ h e x.0 y.0 ∙ ap (λ (z : Query × ℕ). evaluate w (room - top) e z.0) d,
         subst (EndsPair m) (ap (λ (z : Query × ℕ). z.1) d) i.ends,
       ))
 
-pub works-as :
+pub works_as :
     (w : World) (t u : Parsed) (top room : ℕ) (s : Scope) (before after : List ℤ) (r : Stood) → t ≡ u →
     Works w u top room s before after r → Works w t top room s before after r
-works-as w t u top room s before after r e g = subst (λ (t : Parsed). Works w t top room s before after r) (sym e) g
+works_as w t u top room s before after r e g = subst (λ (t : Parsed). Works w t top room s before after r) (sym e) g
 
 -- no tree: nothing is promised of it
-pub works-nothing :
+pub works_nothing :
     (w : World) (t : Parsed) (top room : ℕ) (s : Scope) (cells : List ℤ) (p : ℕ) → t ≡ fails →
     Works w t top room s cells cells (Stood.Failed p)
-works-nothing w t top room s cells p h =
+works_nothing w t top room s cells p h =
     record { kept = refl; fit = tt; means = λ e g x c. absurd (fails_gives x (sym h ∙ c)) }
 
 -- the first operand is refused, and so is the record
-pub works-stopped :
+pub works_stopped :
     (w : World) (t a : Parsed) (top room : ℕ) (s : Scope) (before after : List ℤ) (m : Stood) →
     OneOf (1 ∷ 2 ∷ []) (tag_of the_type m) → Works w a top room s before after m →
     ((x : Query × ℕ) → t ≡ gives x → (y : Query × ℕ) × (a ≡ gives y) × ((e : Env) →
     (g : Standing → Work Standing) × (work (evaluate w (room - top) e y.0) g ≡ evaluate w (room - top) e x.0))) →
     Works w t top room s before after m
 unfolding stood work
-works-stopped w t a top room s before after (Stood.Items l k n) h g q = absurd (miss (1 ∷ 2 ∷ []) 0 tt h)
-works-stopped w t a top room s before after (Stood.Full p) h g q =
+works_stopped w t a top room s before after (Stood.Items l k n) h g q = absurd (miss (1 ∷ 2 ∷ []) 0 tt h)
+works_stopped w t a top room s before after (Stood.Full p) h g q =
     record {
       kept = g.kept;
       fit = tt;
@@ -163,7 +163,7 @@ works-stopped w t a top room s before after (Stood.Full p) h g q =
           let (f, i) = d e in
           record { stands = ap (λ (o : Work Standing). work o f) (g.means e k y u).stands ∙ i; ends = tt };
     }
-works-stopped w t a top room s before after (Stood.Failed p) h g q =
+works_stopped w t a top room s before after (Stood.Failed p) h g q =
     record {
       kept = g.kept;
       fit = tt;
@@ -216,7 +216,7 @@ module _ (w : World) (room at : ℕ) (e : Env) where
   unfolding evaluate kept both behind binding
   keep_is v p q = after_both _ (evaluate w room e p) _
 
-  pub apply-is :
+  pub apply_is :
       (f : Function) (p q : Query) → applied w at f (both w room e Nothing p q) ≡ evaluate w room e (QO at f p q)
   unfolding evaluate applied both behind binding
-  apply-is f p q = after_both _ (evaluate w room e p) _
+  apply_is f p q = after_both _ (evaluate w room e p) _

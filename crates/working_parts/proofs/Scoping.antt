@@ -1,8 +1,8 @@
 -- Laws on scopes and the stores that they hold.
 --     scoped_more       what stands below top stands below a greater one
---     scoped-bound      one more binding, of items below top
+--     scoped_bound      one more binding, of items below top
 --     holds_kept        cells above top say nothing of a scope
---     holds-bound       one more binding, in scope and store
+--     holds_bound       one more binding, in scope and store
 --     scoped_nothing, holds_nothing    at first no variable holds an item
 use Prim.Native.Nat.{ℕ, ◌+◌, ◌≤◌, ◌<◌}
 use mathlib.Core.Path.{◌≡◌, refl, ◌∙◌}
@@ -25,11 +25,11 @@ pub scoped_more : (top higher : ℕ) (s : Scope) → top ≤ higher → Scoped t
 scoped_more top higher s h g =
     record { starts = g.starts; lengths = g.lengths; below = λ v l. omega (arith, g.below v l) }
 
-pub scoped-bound :
+pub scoped_bound :
     (top a l : ℕ) (s : Scope) (b : Binding) → Bindable b → a + l ≤ top → Scoped top s → Scoped top (scoping s b a l)
 unfolding scoping
-scoped-bound top a l s Nothing k h g = g
-scoped-bound top a l s (Variable v) k h g =
+scoped_bound top a l s Nothing k h g = g
+scoped_bound top a l s (Variable v) k h g =
     record {
       starts = length-set s.starts v a ∙ g.starts;
       lengths = length-set s.lengths v l ∙ g.lengths;
@@ -49,12 +49,12 @@ pub holds_kept :
 unfolding held
 holds_kept top s e before after g k h v l = row_kept before after top _ _ (g.below v l) k ∙ h v l
 
-pub holds-bound :
+pub holds_bound :
     (top a l : ℕ) (s : Scope) (b : Binding) (e : Env) (cells xs : List ℤ) → Scoped top s → Bindable b →
     row cells a l ≡ xs → HoldsEnv cells s e → HoldsEnv cells (scoping s b a l) (binding b xs e)
 unfolding scoping binding held bind
-holds-bound top a l s Nothing e cells xs g k r h u f = h u f
-holds-bound top a l s (Variable v) e cells xs g k r h u f = go (ℕ_discrete u v)
+holds_bound top a l s Nothing e cells xs g k r h u f = h u f
+holds_bound top a l s (Variable v) e cells xs g k r h u f = go (ℕ_discrete u v)
   where
     go : Dec (u ≡ v) → held cells (scoping s (Variable v) a l) u ≡ bind v xs e u
     go (yes d) =

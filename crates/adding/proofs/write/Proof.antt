@@ -1,7 +1,7 @@
 -- `write` meets its contract, by the operator's cases.
 use borrow.Author.Rules.{rules}
 use Rattle.adding.specs.Ruled.{operator_of}
-use Rattle.adding.proofs.Adding.{pens-of, pens-cell}
+use Rattle.adding.proofs.Adding.{pens_of, pens_cell}
 use Rattle.adding.proofs.write.Statement.{statement}
 use Rattle.adding.proofs.write.Tie as tie
 
@@ -101,7 +101,7 @@ same_length c = search rules
 returns : tie.Need-returns
 unfolding operator_of
 returns c =
-    pens-of c.before.before.before.before.enum_told.given.1 c.before.before.one.ensures
+    pens_of c.before.before.before.before.enum_told.given.1 c.before.before.one.ensures
 
 same-length-2 : tie.Need-same-length-2
 same-length-2 c = search rules
@@ -109,7 +109,7 @@ same-length-2 c = search rules
 returns-2 : tie.Need-returns-2
 unfolding operator_of
 returns-2 c =
-    pens-of c.before.before.before.before.before.operator.given.1 (pens-cell _ _ (search rules)
+    pens_of c.before.before.before.before.before.operator.given.1 (pens_cell _ _ (search rules)
     c.before.before.attach.ensures)
 
 same-length-3 : tie.Need-same-length-3
@@ -118,7 +118,7 @@ same-length-3 c = search rules
 returns-3 : tie.Need-returns-3
 unfolding operator_of
 returns-3 c =
-    pens-of c.before.before.before.before.before.operator2.given.1 c.before.before.project.ensures
+    pens_of c.before.before.before.before.before.operator2.given.1 c.before.before.project.ensures
 
 same-length-4 : tie.Need-same-length-4
 same-length-4 c = search rules
@@ -126,7 +126,7 @@ same-length-4 c = search rules
 returns-4 : tie.Need-returns-4
 unfolding operator_of
 returns-4 c =
-    pens-of c.before.before.before.before.before.operator3.given.1 c.before.before.union.ensures
+    pens_of c.before.before.before.before.before.operator3.given.1 c.before.before.union.ensures
 
 same-length-5 : tie.Need-same-length-5
 same-length-5 c = search rules
@@ -134,7 +134,7 @@ same-length-5 c = search rules
 returns-5 : tie.Need-returns-5
 unfolding operator_of
 returns-5 c =
-    pens-of c.before.before.before.before.before.operator4.given.1 c.before.before.minus.ensures
+    pens_of c.before.before.before.before.before.operator4.given.1 c.before.before.minus.ensures
 
 same-length-6 : tie.Need-same-length-6
 same-length-6 c = search rules
@@ -142,7 +142,7 @@ same-length-6 c = search rules
 returns-6 : tie.Need-returns-6
 unfolding operator_of
 returns-6 c =
-    pens-of c.before.before.before.before.before.operator5.given.1 c.before.before.select.ensures
+    pens_of c.before.before.before.before.before.operator5.given.1 c.before.before.select.ensures
 
 same-length-7 : tie.Need-same-length-7
 same-length-7 c = search rules
@@ -150,7 +150,7 @@ same-length-7 c = search rules
 returns-7 : tie.Need-returns-7
 unfolding operator_of
 returns-7 c =
-    pens-of c.before.before.before.before.before.operator6.given.1 c.before.before.join.ensures
+    pens_of c.before.before.before.before.before.operator6.given.1 c.before.before.join.ensures
 
 same-length-8 : tie.Need-same-length-8
 same-length-8 c = search rules
@@ -158,7 +158,7 @@ same-length-8 c = search rules
 returns-8 : tie.Need-returns-8
 unfolding operator_of
 returns-8 c =
-    pens-of c.before.before.before.before.before.operator7.given.1 c.before.before.number.ensures
+    pens_of c.before.before.before.before.before.operator7.given.1 c.before.before.number.ensures
 
 same-length-9 : tie.Need-same-length-9
 same-length-9 c = search rules
@@ -166,7 +166,7 @@ same-length-9 c = search rules
 returns-9 : tie.Need-returns-9
 unfolding operator_of
 returns-9 c =
-    pens-of c.before.before.before.before.before.operator8.given.1 c.before.before.apply.ensures
+    pens_of c.before.before.before.before.before.operator8.given.1 c.before.before.apply.ensures
 
 same-length-10 : tie.Need-same-length-10
 same-length-10 c = search rules
@@ -174,7 +174,7 @@ same-length-10 c = search rules
 returns-10 : tie.Need-returns-10
 unfolding operator_of
 returns-10 c =
-    pens-of c.before.before.before.before.before.operator9.given.1 c.before.before.value.ensures
+    pens_of c.before.before.before.before.before.operator9.given.1 c.before.before.value.ensures
 
 same-length-11 : tie.Need-same-length-11
 same-length-11 c = search rules
@@ -182,7 +182,7 @@ same-length-11 c = search rules
 returns-11 : tie.Need-returns-11
 unfolding operator_of
 returns-11 c =
-    pens-of c.before.before.before.before.before.operator10.given.1 c.before.before.counts.ensures
+    pens_of c.before.before.before.before.before.operator10.given.1 c.before.before.counts.ensures
 
 same-length-12 : tie.Need-same-length-12
 same-length-12 c = search rules
@@ -190,7 +190,7 @@ same-length-12 c = search rules
 returns-12 : tie.Need-returns-12
 unfolding operator_of
 returns-12 c =
-    pens-of c.before.before.before.before.before.operator11.given.1 c.before.before.truths.ensures
+    pens_of c.before.before.before.before.before.operator11.given.1 c.before.before.truths.ensures
 
 same-length-13 : tie.Need-same-length-13
 same-length-13 c = search rules
@@ -198,7 +198,7 @@ same-length-13 c = search rules
 returns-13 : tie.Need-returns-13
 unfolding operator_of
 returns-13 c =
-    pens-of c.before.before.before.before.before.operator12.given.1 c.before.before.once.ensures
+    pens_of c.before.before.before.before.before.operator12.given.1 c.before.before.once.ensures
 
 same-length-14 : tie.Need-same-length-14
 same-length-14 c = search rules
@@ -206,7 +206,7 @@ same-length-14 c = search rules
 returns-14 : tie.Need-returns-14
 unfolding operator_of
 returns-14 c =
-    pens-of c.before.before.before.before.before.operator13.given.1 c.before.before.step.ensures
+    pens_of c.before.before.before.before.before.operator13.given.1 c.before.before.step.ensures
 
 same-length-15 : tie.Need-same-length-15
 same-length-15 c = search rules
@@ -214,7 +214,7 @@ same-length-15 c = search rules
 returns-15 : tie.Need-returns-15
 unfolding operator_of
 returns-15 c =
-    pens-of c.before.before.before.before.before.operator14.given.1 c.before.before.root.ensures
+    pens_of c.before.before.before.before.before.operator14.given.1 c.before.before.root.ensures
 
 pub write_spec : {M : Type 1} → statement M
 write_spec =

@@ -1,6 +1,6 @@
 -- `operators::arms::number` meets its contract.
 use native.Mathlib.Omega.{arith}
-use Rattle.arms.proofs.Keyed.{keys_suit, keys-owe}
+use Rattle.arms.proofs.Keyed.{keys_suit, keys_owe}
 use borrow.Author.Rules.{rules}
 use Rattle.arms.proofs.number.Statement.{statement}
 use Rattle.arms.proofs.number.Tie as tie
@@ -33,7 +33,7 @@ returns : tie.Need-returns
 returns c =
     let numbered = c.before.before.before.before.before in
     let at-keys = numbered.before.before.before.before in
-    keys-owe at-keys.keys.result _ _ _ _ _ _ _ _ _ at-keys.keys.ensures
+    keys_owe at-keys.keys.result _ _ _ _ _ _ _ _ _ at-keys.keys.ensures
     (rw at-keys.before.stand.ensures at numbered.number.ensures)
 
 pub number-spec : {M : Type 1} → statement M

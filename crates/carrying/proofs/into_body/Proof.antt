@@ -1,7 +1,7 @@
 -- `into_body` meets its contract: the flags of the others, these lifted, then the loop's own variable.
 use borrow.Author.Rules.{rules}
 use native.Mathlib.Omega.{arith}
-use Rattle.carrying.proofs.Carrying.{body-carried}
+use Rattle.carrying.proofs.Carrying.{body_carried}
 use Rattle.carrying.proofs.into_body.Statement.{statement}
 use Rattle.carrying.proofs.into_body.Tie as tie
 
@@ -27,7 +27,7 @@ returns c =
     let others = lift.before.before in
     let flags = others.before in
     let a = flags.before.before.before.args in
-    body-carried a.v a.own flags.free.result others.without.result bound.hold.result
+    body_carried a.v a.own flags.free.result others.without.result bound.hold.result
     (omega (arith, flags.free.type-inv)) flags.free.ensures others.without.ensures lift.lift.ensures
     bound.hold.ensures (omega (arith, bound.hold.type-inv))
 

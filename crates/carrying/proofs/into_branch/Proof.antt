@@ -1,6 +1,6 @@
 -- `into_branch` meets its contract: the flags of the free variables, then the variables lifted.
 use borrow.Author.Rules.{rules}
-use Rattle.carrying.proofs.Carrying.{branch-carried}
+use Rattle.carrying.proofs.Carrying.{branch_carried}
 use Rattle.carrying.proofs.into_branch.Statement.{statement}
 use Rattle.carrying.proofs.into_branch.Tie as tie
 
@@ -17,7 +17,7 @@ returns : tie.Need-returns
 returns c =
     let lift = c.before.before in
     let flags = lift.before.before in
-    branch-carried flags.free.result flags.free.ensures lift.lift.ensures
+    branch_carried flags.free.result flags.free.ensures lift.lift.ensures
 
 pub into-branch-spec : {M : Type 1} → statement M
 into-branch-spec = tie.close (tie.spec free-requires lift-requires same_length returns)

@@ -14,7 +14,7 @@ use Rattle.tables.specs.Layout.{table_at}
 use Rattle.members.specs.Grouped.{in_front}
 use Rattle.tables.specs.Order.{cell_at}
 use Rattle.tables.proofs.Reading.{length_table}
-use Rattle.members.proofs.Members.{counted-more, counted_end}
+use Rattle.members.proofs.Members.{counted_more, counted_end}
 use Rattle.laws.proofs.Lists.{byte_few}
 use borrow.Author.Rules.{rules}
 use Rattle.counting.proofs.count_rows.Statement.{statement}
@@ -82,7 +82,7 @@ loop-again c =
     let at = c.before.before.before.before in (
       omega arith,
       omega (arith, byte_few c.same.result),
-      counted-more _ _ _ _ _ _ _ (here c.before.before) (equal c) at.loop.invariant.2,
+      counted_more _ _ _ _ _ _ _ (here c.before.before) (equal c) at.loop.invariant.2,
     )
 
 returns : tie.Need-returns invariant-loop decreases-loop

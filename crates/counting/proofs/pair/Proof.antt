@@ -3,7 +3,7 @@ use Prim.Native.Nat.{◌-◌}
 use native.Mathlib.Omega.{arith}
 use lib.ListN.{length-set}
 use mir.Facts.{to_z-of_z}
-use Rattle.members.proofs.Members.{pair_full, pair-laid}
+use Rattle.members.proofs.Members.{pair_full, pair_laid}
 use borrow.Author.Rules.{rules}
 use Rattle.counting.proofs.pair.Statement.{statement}
 use Rattle.counting.proofs.pair.Tie as tie
@@ -34,7 +34,7 @@ same_length c = search rules
 
 returns-2 : tie.Need-returns-2
 returns-2 c =
-    pair-laid _ _ _ _ _ _ _ (to_z-of_z c.before.ranges.x) (to_z-of_z c.before.ranges.y) (omega arith) (omega arith)
+    pair_laid _ _ _ _ _ _ _ (to_z-of_z c.before.ranges.x) (to_z-of_z c.before.ranges.y) (omega arith) (omega arith)
 
 pub pair_spec : {M : Type 1} → statement M
 pair_spec =

@@ -2,7 +2,7 @@
 use native.Mathlib.Omega.{arith}
 use Rattle.meaning.specs.Calls.{room}
 use Rattle.working_parts.proofs.Scoping.{scoped_nothing}
-use Rattle.evaluator.proofs.Calling.{call-refused, call-unsound, known-accepted, left-within, call-concluded}
+use Rattle.evaluator.proofs.Calling.{call_refused, call_unsound, known_accepted, left_within, call_concluded}
 use borrow.Author.Rules.{rules}
 use Rattle.evaluator.proofs.evaluate.Statement.{statement}
 use Rattle.evaluator.proofs.evaluate.Tie as tie
@@ -29,7 +29,7 @@ returns c =
     let at-check = at-match-keys2.before in
     let start = at-check.before.before.before in
     let q = at-check.check in
-    call-refused _ _ start.args.work.now _ _ q.result q.ensures at-match-keys2.match.keys2
+    call_refused _ _ start.args.work.now _ _ q.result q.ensures at-match-keys2.match.keys2
     c.refused.ensures at_clear.clear.ensures
 
 check-requires-2 : tie.Need-check-requires-2
@@ -60,7 +60,7 @@ returns-2 c =
     let start = at-check.before.before.before in
     let q = at-check.check in
     let d = at-check2.check2 in
-    call-unsound _ _ start.args.work.now _ _ q.result q.ensures _ at-enum-told.enum_told.given.1
+    call_unsound _ _ start.args.work.now _ _ q.result q.ensures _ at-enum-told.enum_told.given.1
     d.result d.ensures _ at-enum-told2.enum-told2.given.1 c.unsound.ensures
     at-clear2.clear2.ensures
 
@@ -76,7 +76,7 @@ work-out-requires c κs =
     let start = at-check2.before.before.before.before.before.before in
     let d = at-check2.check2 in
     let e = at-room-of.room_of.ensures in (
-      known-accepted start.args.doc.now d.result d.ensures _ at-sound.sound.given.1,
+      known_accepted start.args.doc.now d.result d.ensures _ at-sound.sound.given.1,
       scoped_nothing,
       record { low = omega arith; lent = omega (arith, e) },
     )
@@ -91,7 +91,7 @@ clear-requires-3 c κs =
     let at-room-of = at-work-out.before.before in
     let w = at-work-out.work-out in
     let s = at-room-of.room_of in
-    left-within s.result _ w.new.1.1.1.1.1.1.0 w.result
+    left_within s.result _ w.new.1.1.1.1.1.1.0 w.result
     (omega (arith, s.ensures, w.auto.1.1.1.1.1.1.0)) w.ensures.fit c.items_left.ensures
 
 concluded-requires : tie.Need-concluded-requires
@@ -113,7 +113,7 @@ returns-3 c =
     let q = at-check.check in
     let d = at-check2.check2 in
     let w = at-work-out.work-out in
-    call-concluded _ _ _ _ _ q.result q.ensures _ at-enum-told.enum_told.given.1 d.result d.ensures _
+    call_concluded _ _ _ _ _ q.result q.ensures _ at-enum-told.enum_told.given.1 d.result d.ensures _
     at-sound.sound.given.1
     _ _ _ _ at-room-of.room_of.ensures w.auto.1.1.1.1.1.1.0 w.ensures
     at-items-left.items_left.ensures at-clear3.clear3.ensures c.concluded.ensures

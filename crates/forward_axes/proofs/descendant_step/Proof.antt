@@ -6,7 +6,7 @@ use native.Mathlib.Omega.{arith}
 use Rattle.meaning.specs.Catalogue.{catalogue_of}
 use Rattle.step_parts.specs.Steps.{AxisPart, or_self}
 use Rattle.step_parts.proofs.Marking.{part_none, part_up}
-use Rattle.forward_axes.proofs.Descendant.{Until, until_begin, until_more, until-flag}
+use Rattle.forward_axes.proofs.Descendant.{Until, until_begin, until_more, until_flag}
 use Rattle.forward_axes.proofs.descendant_step.Statement.{statement}
 use Rattle.forward_axes.proofs.descendant_step.Tie as tie
 
@@ -72,7 +72,7 @@ loop-again c =
       part_up args.doc.now args.rows (or_self args.own) args.test from args.to.now loop.to
           loop.v _ _ (omega arith)
           (takes.takes.ensures args.rows)
-          (until-flag cat args.rows nested from loop.v loop.until.0 here
+          (until_flag cat args.rows nested from loop.v loop.until.0 here
           loop.invariant.1 args.own)
           loop.invariant.2,
     )

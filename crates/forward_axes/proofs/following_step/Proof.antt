@@ -7,7 +7,7 @@ use Rattle.codes.specs.declared.Axis.TheVariants.{Following}
 use Rattle.meaning.specs.Catalogue.{catalogue_of}
 use Rattle.step_parts.specs.Steps.{AxisPart}
 use Rattle.step_parts.proofs.Marking.{part_none, part_up}
-use Rattle.forward_axes.proofs.Following.{Least, least_begin, least-enter, least_more, least_flag}
+use Rattle.forward_axes.proofs.Following.{Least, least_begin, least_enter, least_more, least_flag}
 use Rattle.forward_axes.proofs.following_step.Statement.{statement}
 use Rattle.forward_axes.proofs.following_step.Tie as tie
 
@@ -72,7 +72,7 @@ loop-again c =
     let here = turn.loop-test.true in
     let cat = catalogue_of args.doc.now args.rows in
     let entered = rw (sym level.level-of.ensures.0, sym pick.pick.ensures) at
-    (least-enter cat args.rows nested from loop.v loop.least.0 here
+    (least_enter cat args.rows nested from loop.v loop.least.0 here
     loop.invariant.1) in (
       omega arith,
       rw (c.pick2.ensures, end.end_of_lem.ensures.0)

@@ -6,7 +6,7 @@ use Rattle.codes.specs.declared.Axis.TheVariants.{Itself}
 use Rattle.meaning.specs.Catalogue.{catalogue_of}
 use Rattle.step_parts.specs.Steps.{AxisPart}
 use Rattle.step_parts.proofs.Marking.{part_none, part_up}
-use Rattle.forward_axes.proofs.Itself.{self-flag}
+use Rattle.forward_axes.proofs.Itself.{self_flag}
 use Rattle.forward_axes.proofs.self_step.Statement.{statement}
 use Rattle.forward_axes.proofs.self_step.Tie as tie
 
@@ -45,7 +45,7 @@ loop-again c =
           _ _
           (omega arith)
           (c.takes.ensures args.rows)
-          (self-flag cat args.rows args.from.now loop.v turn.loop-test.true)
+          (self_flag cat args.rows args.from.now loop.v turn.loop-test.true)
           loop.invariant.1,
     )
 

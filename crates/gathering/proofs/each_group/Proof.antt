@@ -10,12 +10,12 @@ use Rattle.meaning.specs.World.{world_of}
 use Rattle.tables.specs.declared.Laid.TheVariants.{Rows}
 use Rattle.tables.specs.Layout.{table_at, Inside, Owes}
 use Rattle.tables.proofs.Promise.{owes_is}
-use Rattle.tables.proofs.Laying.{counted_fits, length-laying}
+use Rattle.tables.proofs.Laying.{counted_fits, length_laying}
 use Rattle.tables.specs.Order.{climbs}
 use Rattle.gathering.specs.Gathered.{column_of, turn}
 use Rattle.tables.proofs.Reading.{length_table}
-use Rattle.gathering.proofs.Gathering.{suits-long, table_kept}
-use Rattle.gathering.proofs.Passing.{Lays, lays_first, lays_more, lays-stopped, lays_end}
+use Rattle.gathering.proofs.Gathering.{suits_long, table_kept}
+use Rattle.gathering.proofs.Passing.{Lays, lays_first, lays_more, lays_stopped, lays_end}
 use borrow.Author.Rules.{rules}
 use Rattle.gathering.proofs.each_group.Statement.{statement}
 use Rattle.gathering.proofs.each_group.Tie as tie
@@ -45,7 +45,7 @@ loop-holds c = (refl, refl, lays_first _ _ _ _ _ _ (omega arith))
 long :
     (c : tie.At-loop invariant-loop decreases-loop)
     → length c.loop.work ≡ length c.before.before.before.before.args.work.now
-long c = length-laying _ _ _ _ _ _ _ _ _ (omega arith) c.loop.invariant.2
+long c = length_laying _ _ _ _ _ _ _ _ _ (omega arith) c.loop.invariant.2
 
 -- the table stands as it did
 kept : (c : tie.At-loop invariant-loop decreases-loop) →
@@ -113,7 +113,7 @@ turn-requires c κs =
         omega (arith, long at),
       ),
       (
-        suits-long _ _ _ _ _ _ _ _ _ at.loop.invariant.0 at.loop.invariant.1 start.requires.1.0,
+        suits_long _ _ _ _ _ _ _ _ _ at.loop.invariant.0 at.loop.invariant.1 start.requires.1.0,
         start.requires.1.1.0 ∙ ap (λ (t : Table). climbs (column t (column_of start.args.gather))) (sym (kept at)),
       ),
     )
@@ -141,7 +141,7 @@ returns c =
     let turned = turn-of c.before in
     let at = loop-of turned in
     let start = at.before.before.before.before in
-    lays-stopped _ _ _ _ _ _ _ _ _ _ at.loop.inv.2 (here turned.before.before.before.before) (omega arith)
+    lays_stopped _ _ _ _ _ _ _ _ _ _ at.loop.inv.2 (here turned.before.before.before.before) (omega arith)
     _ _ c.match.keys2
     start.pre.1.1.1 (owed turned)
 

@@ -1,5 +1,5 @@
 -- `groups::each::lay_group` meets its contract: each kind of gathering by its own function.
-use Rattle.gathering.proofs.Gathering.{suits_count, suits_truth, suits_step, owes-count, owes-truth, owes-step}
+use Rattle.gathering.proofs.Gathering.{suits_count, suits_truth, suits_step, owes_count, owes_truth, owes_step}
 use borrow.Author.Rules.{rules}
 use Rattle.gathering.proofs.lay_group.Statement.{statement}
 use Rattle.gathering.proofs.lay_group.Tie as tie
@@ -37,14 +37,14 @@ same_length c = search rules
 
 returns : tie.Need-returns
 returns c =
-    owes-count _ _ _ _ _ _ _ _ _ c.before.before.before.before.gather.given.1 c.before.count-group.ensures
+    owes_count _ _ _ _ _ _ _ _ _ c.before.before.before.before.gather.given.1 c.before.count-group.ensures
 
 same-length-2 : tie.Need-same-length-2
 same-length-2 c = search rules
 
 returns-2 : tie.Need-returns-2
 returns-2 c =
-    owes-truth _ _ _ _ _ _ _ _ c.before.before.before.enum_told.given.1 c.before.truth-group.ensures
+    owes_truth _ _ _ _ _ _ _ _ c.before.before.before.enum_told.given.1 c.before.truth-group.ensures
 
 same-length-3 : tie.Need-same-length-3
 same-length-3 c = search rules
@@ -58,7 +58,7 @@ same-length-5 c = search rules
 returns-3 : tie.Need-returns-3
 returns-3 c =
     let stepping = c.before.before.before.before.before in
-    owes-step _ _ _ _ _ _ _ _ _ _ stepping.before.before.before.before.before.gather2.given.1
+    owes_step _ _ _ _ _ _ _ _ _ _ stepping.before.before.before.before.before.gather2.given.1
     stepping.step-group.ensures
 
 pub lay-group-spec : {M : Type 1} → statement M

@@ -8,7 +8,7 @@ use Rattle.gathering.specs.Gathered.{column_of}
 use Rattle.gathering.specs.declared.Gather.TheVariants.{Truth}
 use Rattle.meaning.specs.World.{world_of}
 use Rattle.gathering.proofs.Turns.{turn_no}
-use Rattle.gathering.proofs.Passing.{truth-turn}
+use Rattle.gathering.proofs.Passing.{truth_turn}
 use borrow.Author.Rules.{rules}
 use Rattle.gathering.proofs.settled.Statement.{statement}
 use Rattle.gathering.proofs.settled.Tie as tie
@@ -46,7 +46,7 @@ returns-2 c =
     λ d.
     c.is-judged.ensures
     ∙ ap succeeds c.before.group-truth.ensures
-    ∙ truth-turn d _ _ _ (sym else.before.opens.ensures ∙ not-false _ else.if1.false) p.3 p.4
+    ∙ truth_turn d _ _ _ (sym else.before.opens.ensures ∙ not-false _ else.if1.false) p.3 p.4
 
 pub settled-spec : {M : Type 1} → statement M
 settled-spec =

@@ -14,7 +14,7 @@ use Rattle.gathering.specs.declared.Gather.TheVariants.{Truth}
 use Rattle.gathering.specs.Gathered.{whole}
 use Rattle.tables.proofs.Reading.{length_table}
 use Rattle.gathering.proofs.Turns.{rest}
-use Rattle.gathering.proofs.Passing.{tests_first, tests_fails, tests-more, tests_end}
+use Rattle.gathering.proofs.Passing.{tests_first, tests_fails, tests_more, tests_end}
 use borrow.Author.Rules.{rules}
 use Rattle.gathering.proofs.settles.Statement.{statement}
 use Rattle.gathering.proofs.settles.Tie as tie
@@ -63,7 +63,7 @@ loop-again c =
     let at = then.before.before in
     let t = table_at at.before.args.work.now at.before.args.s in
     λ d.
-    sym (tests-more Truth (world_of d) t at.loop.i (here then)
+    sym (tests_more Truth (world_of d) t at.loop.i (here then)
     (sym (c.before.settled.ensures d) ∙ not-false _ c.if2.false))
     ∙ at.loop.invariant d
 

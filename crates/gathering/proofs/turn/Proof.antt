@@ -10,8 +10,8 @@ use Rattle.tables.proofs.Promise.{owes_is, none_laid}
 use Rattle.members.specs.Grouped.{in_front, opening}
 use Rattle.tables.specs.Order.{cell_at, climbs}
 use Rattle.gathering.specs.Gathered.{column_of}
-use Rattle.gathering.proofs.Turns.{turn_no, turn-yes}
-use Rattle.gathering.proofs.Gathering.{suits-column, suits-wide}
+use Rattle.gathering.proofs.Turns.{turn_no, turn_yes}
+use Rattle.gathering.proofs.Gathering.{suits_column, suits_wide}
 use borrow.Author.Rules.{rules}
 use Rattle.gathering.proofs.turn.Statement.{statement}
 use Rattle.gathering.proofs.turn.Tie as tie
@@ -27,7 +27,7 @@ column-of-requires c κs = search rules
 inside : (c : tie.After-column-of) → c.column-of.result < c.before.before.before.before.args.s.width
 inside c =
     let start = c.before.before.before.before in
-    omega (arith, c.column-of.ensures, suits-column _ _ _ _ _ _ _ start.requires.1.0)
+    omega (arith, c.column-of.ensures, suits_column _ _ _ _ _ _ _ start.requires.1.0)
 
 -- whether it climbs
 told : (c : tie.After-column-of) →
@@ -76,7 +76,7 @@ lay-group-requires c κs =
     let parting = c.before.before.before in
     let start = start_of parting.before.before.before in
     let p = parting.part.ensures in
-    ((omega (arith, p.0), p.2, omega arith, omega arith), suits-wide _ _ _ _ _ _ _ _ p.1 start.pre.1.0)
+    ((omega (arith, p.0), p.2, omega arith, omega arith), suits_wide _ _ _ _ _ _ _ _ p.1 start.pre.1.0)
 
 same-length-2 : tie.Need-same-length-2
 same-length-2 c = search rules
@@ -112,7 +112,7 @@ returns-2 c =
     let else = parting.before.before in
     let p = parted parting in
     let does = sym (opened else.before) ∙ not-false _ else.if1.false in
-    owes_is _ _ _ _ _ _ (turn-yes _ _ _ _ _ does p.0 p.1) laying.lay-group.ensures
+    owes_is _ _ _ _ _ _ (turn_yes _ _ _ _ _ does p.0 p.1) laying.lay-group.ensures
 
 pub turn_spec : {M : Type 1} → statement M
 turn_spec =

@@ -4,7 +4,7 @@ use native.Mathlib.Omega.{arith}
 use mir.Syntax.{w32}
 use Rattle.cells.proofs.Bits.{read_back}
 use Rattle.items.specs.Answers.{integer_tried, tried}
-use Rattle.items.proofs.Cases.{text_outside, text_other, text-is}
+use Rattle.items.proofs.Cases.{text_outside, text_other, text_is}
 use borrow.Author.Rules.{rules}
 use Rattle.items.proofs.text_value.Statement.{statement}
 use Rattle.items.proofs.text_value.Tie as tie
@@ -30,7 +30,7 @@ returns-3 : tie.Need-returns-3
 unfolding integer_tried
 returns-3 c =
     c.given.ensures
-    ∙ text-is _ _ _ _ _ (omega arith) c.before.before.before.kind.ensures.0 c.before.before.if2.false
+    ∙ text_is _ _ _ _ _ (omega arith) c.before.before.before.kind.ensures.0 c.before.before.if2.false
     (read_back w32 c.before.prop.type-inv ∙ c.before.prop.ensures)
 
 pub text-value-spec : {M : Type 1} → statement M

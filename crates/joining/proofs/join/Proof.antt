@@ -16,7 +16,7 @@ use Rattle.tables.specs.Layout.{Owes, Inside, table_at}
 use Rattle.tables.proofs.Promise.{owes_is}
 use Rattle.tables.proofs.Reading.{cell_read}
 use Rattle.tables.proofs.Unrolled.{past_first}
-use Rattle.tables.proofs.Laying.{counted_fits, length-laying, laying_start, row_more, row-stopped, rows-laid}
+use Rattle.tables.proofs.Laying.{counted_fits, length_laying, laying_start, row_more, row_stopped, rows_laid}
 use Rattle.tables.specs.Laying.{Laying}
 use Rattle.tables.specs.Order.{climbs}
 use Rattle.searching.proofs.Narrowing.{narrows_cell}
@@ -61,7 +61,7 @@ abbrev Loop : Type 0
 Loop = tie.At-loop invariant-loop decreases-loop
 
 long : (c : Loop) → length c.loop.work ≡ length c.before.before.before.args.work.now
-long c = length-laying _ _ _ _ _ _ _ _ _ (omega arith) c.loop.invariant.2
+long c = length_laying _ _ _ _ _ _ _ _ _ (omega arith) c.loop.invariant.2
 
 -- the first row of s that is left
 first : (c : tie.In-loop invariant-loop decreases-loop) →
@@ -163,7 +163,7 @@ returns c =
     let in-loop = turn-of c.before in
     let at = in-loop.before in
     owes_is _ _ _ _ _ _ (join_each _ _ _ _ _)
-    (row-stopped _ _ _ _ _ _ _ _ _ _ _ _ in-loop.loop-test.taken (omega arith) at.loop.inv.2 _ _
+    (row_stopped _ _ _ _ _ _ _ _ _ _ _ _ in-loop.loop-test.taken (omega arith) at.loop.inv.2 _ _
     c.match.keys2
     (join_settled _ _ _ _ _) (owed c.before))
 
@@ -202,7 +202,7 @@ returns-2 : tie.Need-returns-2 invariant-loop decreases-loop
 unfolding table_at
 returns-2 c =
     owes_is _ _ _ _ _ _ (join_each _ _ _ _ _)
-    (rows-laid _ _ _ _ _ _ _ _ _ _ _ _ (omega arith) c.before.loop.invariant.2)
+    (rows_laid _ _ _ _ _ _ _ _ _ _ _ _ (omega arith) c.before.loop.invariant.2)
 
 pub join-spec : {M : Type 1} → statement M
 join-spec =

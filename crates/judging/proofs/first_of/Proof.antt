@@ -13,7 +13,7 @@ use Rattle.tables.specs.Layout.{table_at}
 use Rattle.members.specs.Grouped.{in_front}
 use Rattle.judging.specs.Foremost.{least}
 use Rattle.tables.proofs.Reading.{length_table}
-use Rattle.judging.proofs.Least.{least_more, least_within, least-end}
+use Rattle.judging.proofs.Least.{least_more, least_within, least_end}
 use borrow.Author.Rules.{rules}
 use Rattle.judging.proofs.first_of.Statement.{statement}
 use Rattle.judging.proofs.first_of.Tie as tie
@@ -65,7 +65,7 @@ returns c =
     let at = c.before.before in
     let start = at.before.before in (
       at.loop.invariant.0,
-      least-end (table_at start.args.work.now start.args.s) (to_z w64 (of_z w64 at.before.Cell-at.result))
+      least_end (table_at start.args.work.now start.args.s) (to_z w64 (of_z w64 at.before.Cell-at.result))
           at.loop.i _ _
           (omega (arith, length_table start.args.work.now start.args.s)) at.loop.invariant.1,
     )

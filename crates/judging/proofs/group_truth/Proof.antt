@@ -5,7 +5,7 @@ use mir.Syntax.{w64}
 use Rattle.cells.proofs.Bits.{read_back}
 use Rattle.tables.specs.Layout.{table_at}
 use Rattle.tables.proofs.Reading.{length_table}
-use Rattle.judging.proofs.Least.{group-truth-is}
+use Rattle.judging.proofs.Least.{group_truth_is}
 use borrow.Author.Rules.{rules}
 use Rattle.judging.proofs.group_truth.Statement.{statement}
 use Rattle.judging.proofs.group_truth.Tie as tie
@@ -27,7 +27,7 @@ returns c =
     let counting = c.before.before in
     let start = counting.before.before in
     c.judge.ensures
-    ∙ group-truth-is (table_at start.args.work.now start.args.s)
+    ∙ group_truth_is (table_at start.args.work.now start.args.s)
     (omega (arith, length_table start.args.work.now start.args.s)) _ _ _ _
     counting.before.first_of.ensures.1 counting.count-rows.ensures.1
     (read_back w64 c.before.Cell-at.type-inv ∙ c.before.Cell-at.ensures) refl

@@ -5,7 +5,7 @@ use mir.Syntax.{w64}
 use Rattle.cells.proofs.Bits.{read_back}
 use Rattle.items.specs.Answers.{judged}
 use Rattle.tables.specs.Layout.{Inside}
-use Rattle.members.proofs.Members.{pair_is, owes-given, owes_failed}
+use Rattle.members.proofs.Members.{pair_is, owes_given, owes_failed}
 use borrow.Author.Rules.{rules}
 use Rattle.judging.proofs.truth_group.Statement.{statement}
 use Rattle.judging.proofs.truth_group.Tie as tie
@@ -48,7 +48,7 @@ returns-2 c =
     let pairing = c.before.before in
     let reading = pairing.before.before in
     let told = reading.before.before in
-    owes-given _ _ _ _ _ _ _ _ _ (sym told.before.before.before.group-truth.ensures
+    owes_given _ _ _ _ _ _ _ _ _ (sym told.before.before.before.group-truth.ensures
     ∙ ap judged told.before.judged.given.1)
     (pair_is _ _ _ _ _ _ _ _ _ (read_back w64 reading.Cell-at.type-inv ∙ reading.Cell-at.ensures)
     (read_back w64 pairing.truth-cell.type-inv ∙ pairing.truth-cell.ensures) c.before.pair.ensures)

@@ -4,7 +4,7 @@ use mathlib.Core.Path.{refl}
 use Rattle.writing.specs.Listed.{columns_of, keys_of}
 use Rattle.adding.specs.Ruled.{operator_of}
 use Rattle.meaning.specs.Translation.{rule_l}
-use Rattle.adding.proofs.Adding.{wrote_then, wrote-cell}
+use Rattle.adding.proofs.Adding.{wrote_then, wrote_cell}
 use Rattle.leaf_rules.proofs.literal.Statement.{statement}
 use Rattle.leaf_rules.proofs.literal.Tie as tie
 
@@ -26,7 +26,7 @@ returns c =
     let p2 = c.before.before in
     let p1 = p2.before.before.before.before in
     record {
-      wrote = wrote_then p1.add.ensures (wrote-cell _ _ p1.before.before.before.ranges.cell
+      wrote = wrote_then p1.add.ensures (wrote_cell _ _ p1.before.before.before.ranges.cell
           p2.add2.ensures);
       table = refl;
       after = refl;

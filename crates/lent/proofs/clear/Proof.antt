@@ -6,7 +6,7 @@ use lib.IntN.{pos}
 use lib.ListN.{length, replicate, length-set}
 use Rattle.laws.specs.Rows.{laid}
 use Rattle.laws.proofs.Rows.{laid_nothing}
-use Rattle.lent.proofs.Moves.{laid-zeros, padded-zeros}
+use Rattle.lent.proofs.Moves.{laid_zeros, padded_zeros}
 use borrow.Author.Rules.{rules}
 use Rattle.lent.proofs.clear.Statement.{statement}
 use Rattle.lent.proofs.clear.Tie as tie
@@ -39,7 +39,7 @@ loop-less c = search rules
 loop-again : tie.Need-loop-preserved invariant-loop decreases-loop
 loop-again c =
     let inv = c.before.loop.invariant in
-    (omega arith, omega arith, simp length-set inv.2, laid-zeros _ _ _ _ (pos 0) inv.0 (omega arith) inv.3)
+    (omega arith, omega arith, simp length-set inv.2, laid_zeros _ _ _ _ (pos 0) inv.0 (omega arith) inv.3)
 
 same_length : tie.Need-same-length invariant-loop decreases-loop
 same_length c = search rules
@@ -48,7 +48,7 @@ returns : tie.Need-returns invariant-loop decreases-loop
 returns c =
     let inv = c.before.loop.invariant in
     let e : c.before.loop.i ≡ length c.before.before.args.work.now = omega arith in
-    (rw e at inv.3) ∙ padded-zeros _ _ (pos 0) c.before.before.requires
+    (rw e at inv.3) ∙ padded_zeros _ _ (pos 0) c.before.before.requires
 
 pub clear_spec : {M : Type 1} → statement M
 clear_spec =

@@ -7,7 +7,7 @@ use borrow.Author.Rules.{rules}
 use Rattle.laws.specs.Lists.{filter, below}
 use Rattle.lifting.specs.Lifts.{Lifts, flagged}
 use Rattle.adding.proofs.Adding.{wrote_length}
-use Rattle.lifting.proofs.Lifting.{lifts-none, lifts-room, lifts_more}
+use Rattle.lifting.proofs.Lifting.{lifts_none, lifts_room, lifts_more}
 use Rattle.lifting.proofs.lift.Statement.{statement}
 use Rattle.lifting.proofs.lift.Tie as tie
 
@@ -20,7 +20,7 @@ decreases-loop plan₀ m first flags done₀ v₀ plan done v = 8 - v
 
 loop-holds : tie.Need-loop-init invariant-loop decreases-loop
 unfolding flagged below filter
-loop-holds c = (omega arith, lifts-none _ _ _ _ _)
+loop-holds c = (omega arith, lifts_none _ _ _ _ _)
 
 array-read-lift-one : tie.Need-array-read-lift-one invariant-loop decreases-loop
 array-read-lift-one c = omega arith
@@ -30,7 +30,7 @@ lift-one-requires c κs =
     let at-loop = c.before.before.before.before in
     let l = at-loop.loop in
     let start = at-loop.before.before in
-    (lifts-room _ _ _ start.args.t4 l.v _ _ _ _ l.invariant.1 (omega arith) start.requires, omega arith)
+    (lifts_room _ _ _ start.args.t4 l.v _ _ _ _ l.invariant.1 (omega arith) start.requires, omega arith)
 
 add-v : tie.Need-overflow-add-v invariant-loop decreases-loop
 add-v c = search rules
@@ -44,7 +44,7 @@ loop-again c =
     let at-loop = lifted.before.before.before.before.before in
     let l = at-loop.loop in
     let start = at-loop.before.before in
-    let one = lifted.lift-one in (
+    let one = lifted.lift_one in (
       omega arith,
       lifts_more _ _ _ start.args.t4 l.v _ _ _ _ _ _ (omega arith) l.invariant.1 one.ensures,
     )

@@ -4,12 +4,12 @@ use borrow.Author.Tests.{not-true, not-false}
 use Rattle.writing.specs.Listed.{columns_of}
 use Rattle.adding.specs.Ruled.{operator_of}
 use Rattle.adding.proofs.Adding.{wrote_then}
-use Rattle.lifting.proofs.Lifting.{lifts-none, lifts-one}
+use Rattle.lifting.proofs.Lifting.{lifts_none, lifts_one}
 use Rattle.lifting.proofs.lift_one.Statement.{statement}
 use Rattle.lifting.proofs.lift_one.Tie as tie
 
 returns : tie.Need-returns
-returns c = rw (not-true c.before.before.args.flag c.if1.true) (lifts-none _ _ _ _ _)
+returns c = rw (not-true c.before.before.args.flag c.if1.true) (lifts_none _ _ _ _ _)
 
 mul-t17 : tie.Need-overflow-mul-t17
 mul-t17 c = search rules
@@ -40,7 +40,7 @@ returns-2 c =
     let start = p1.before.before.before.before in
     let a = start.args in
     rw (not-false a.flag p1.before.before.if1.false, c.hold.ensures)
-    (lifts-one a.t3 a.m _ a.v _ _ a.pen _ (omega (arith, start.well_formed.1.1.0))
+    (lifts_one a.t3 a.m _ a.v _ _ a.pen _ (omega (arith, start.well_formed.1.1.0))
     (wrote_then p1.add.ensures p2.add2.ensures))
 
 pub lift-one-spec : {M : Type 1} → statement M

@@ -2,7 +2,7 @@
 use mathlib.Core.Path.{refl, ◌∙◌}
 use native.Mathlib.Omega.{arith}
 use Rattle.lines.specs.Text.{items_line}
-use Rattle.pen.proofs.Putting.{pens-more, pens-as}
+use Rattle.pen.proofs.Putting.{pens_more, pens_as}
 use Rattle.lines.proofs.Lines.{first_gave, first_refused, room_gave, room_refused}
 use Rattle.verdicts.proofs.Verdicts.{stands_gave}
 use borrow.Author.Rules.{rules}
@@ -53,8 +53,8 @@ returns c =
     let count = items.before.before.before.before in
     let case = count.before.before.before.before in
     let start = case.before.before.before in (
-      pens-as (first_gave _ _ _ case.told.given.1)
-          (pens-more count.put-line.ensures.0 items.put-items.ensures.0),
+      pens_as (first_gave _ _ _ case.told.given.1)
+          (pens_more count.put-line.ensures.0 items.put-items.ensures.0),
       omega (
         arith,
         room_gave _ start.args.cells.now _ case.told.given.1,
@@ -71,7 +71,7 @@ returns-2 c =
     let line = c.before.before in
     let case = line.before.before.before in
     let start = case.before.before.before in (
-      pens-as (first_refused _ _ _ _ case.told2.given.1) line.put-refusal.ensures.0,
+      pens_as (first_refused _ _ _ _ case.told2.given.1) line.put-refusal.ensures.0,
       omega (
         arith,
         room_refused _ start.args.cells.now _ _ case.told2.given.1,

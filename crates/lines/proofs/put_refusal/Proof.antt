@@ -2,7 +2,7 @@
 use mathlib.Core.Path.{refl, ◌∙◌}
 use native.Mathlib.Omega.{arith}
 use Rattle.lines.specs.Text.{refused_line}
-use Rattle.pen.proofs.Putting.{pens-more}
+use Rattle.pen.proofs.Putting.{pens_more}
 use Rattle.pen.proofs.Digits.{decimal_end}
 use Rattle.lines.proofs.put_refusal.Statement.{statement}
 use Rattle.lines.proofs.put_refusal.Tie as tie
@@ -40,7 +40,7 @@ returns c =
     let place = c.before.before in
     let number = place.before.before.before.before.before in
     let word = number.before.before.before.before in (
-      pens-more word.put_word.ensures (pens-more number.put-number.ensures place.put-line.ensures.0),
+      pens_more word.put_word.ensures (pens_more number.put-number.ensures place.put-line.ensures.0),
       omega (
         arith,
         word.put_word.ensures.ends,

@@ -2,7 +2,7 @@
 use mathlib.Core.Path.{refl, sym, ap}
 use native.Mathlib.Omega.{arith}
 use Rattle.lines.specs.Text.{same_line}
-use Rattle.pen.proofs.Putting.{pens-as}
+use Rattle.pen.proofs.Putting.{pens_as}
 use borrow.Author.Rules.{rules}
 use Rattle.lines.proofs.put_verdict.Statement.{statement}
 use Rattle.lines.proofs.put_verdict.Tie as tie
@@ -41,7 +41,7 @@ returns : tie.Need-returns
 unfolding same_line
 returns c =
     let word = c.before.before in (
-      pens-as (sym (ap same_line word.before.before.before.enum_told.given.1)) word.put_word.ensures,
+      pens_as (sym (ap same_line word.before.before.before.enum_told.given.1)) word.put_word.ensures,
       omega (arith, word.put_word.ensures.ends),
     )
 
@@ -52,7 +52,7 @@ returns-2 : tie.Need-returns-2
 unfolding same_line
 returns-2 c =
     let word = c.before.before in (
-      pens-as (sym (ap same_line word.before.before.before.enum-told2.given.1)) word.put-word2.ensures,
+      pens_as (sym (ap same_line word.before.before.before.enum-told2.given.1)) word.put-word2.ensures,
       omega (arith, word.put-word2.ensures.ends),
     )
 
@@ -63,7 +63,7 @@ returns-3 : tie.Need-returns-3
 unfolding same_line
 returns-3 c =
     let word = c.before.before in (
-      pens-as (sym (ap same_line word.before.before.before.enum-told3.given.1)) word.put-word3.ensures,
+      pens_as (sym (ap same_line word.before.before.before.enum-told3.given.1)) word.put-word3.ensures,
       omega (arith, word.put-word3.ensures.ends),
     )
 

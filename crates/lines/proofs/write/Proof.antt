@@ -1,7 +1,7 @@
 -- `lines::write` meets its contract, by what the translator told.
 use mathlib.Core.Path.{◌∙◌}
 use native.Mathlib.Omega.{arith}
-use Rattle.pen.proofs.Putting.{pens-more, pens-as}
+use Rattle.pen.proofs.Putting.{pens_more, pens_as}
 use Rattle.lines.proofs.Putting.{put_penned}
 use Rattle.lines.proofs.Lines.{text_gave, text_refused}
 use borrow.Author.Rules.{rules}
@@ -37,7 +37,7 @@ returns : tie.Need-returns
 returns c =
     let line = c.before.before in
     put_penned _ _ _ _ _ (omega (arith, line.put-refusal.ensures.1))
-    (pens-as (text_refused _ _ _ _ _ _ _ line.before.before.before.translated.given.1)
+    (pens_as (text_refused _ _ _ _ _ _ _ line.before.before.before.translated.given.1)
     line.put-refusal.ensures.0)
 
 same-length-2 : tie.Need-same-length-2
@@ -51,9 +51,9 @@ returns-2 c =
     let first = same.before.before.before.before.before in
     let start = first.before.before.before.before.before in
     put_penned _ _ _ _ _ (omega (arith, first.put_first.ensures.1, same.put-verdict.ensures.1, start.requires.0.1))
-    (pens-as
+    (pens_as
     (text_gave _ _ _ _ _ _ _ first.before.before.enum_told.given.1 same.before.before.verdict.ensures)
-    (pens-more first.put_first.ensures.0 same.put-verdict.ensures.0))
+    (pens_more first.put_first.ensures.0 same.put-verdict.ensures.0))
 
 pub write_spec : {M : Type 1} → statement M
 write_spec =

@@ -3,7 +3,7 @@ use mathlib.Core.Path.{◌∙◌}
 use native.Mathlib.Omega.{arith}
 use mir.Facts.{to_z-of_z}
 use Rattle.tables.specs.Layout.{Inside}
-use Rattle.tables.proofs.Reading.{row_inside, cell-at-is}
+use Rattle.tables.proofs.Reading.{row_inside, cell_at_is}
 use Rattle.members.proofs.cell_at.Statement.{statement}
 use Rattle.members.proofs.cell_at.Tie as tie
 
@@ -31,7 +31,7 @@ shared-slice-copy-out-result c =
 returns : tie.Need-returns
 returns c =
     to_z-of_z (record { sfits = c.result.given })
-    ∙ cell-at-is _ _ _ _ c.before.before.before.requires.1 c.before.before.before.requires.2
+    ∙ cell_at_is _ _ _ _ c.before.before.before.requires.1 c.before.before.before.requires.2
 
 pub cell-at-spec : {M : Type 1} → statement M
 cell-at-spec =

@@ -9,7 +9,7 @@ use Rattle.cells.proofs.Bits.{read_back}
 use Rattle.cells.specs.Cell.{same}
 use Rattle.tables.specs.Layout.{Inside}
 use Rattle.tables.proofs.Reading.{row_inside, length_table}
-use Rattle.members.proofs.Opening.{opens_first, opens_up, opens-else}
+use Rattle.members.proofs.Opening.{opens_first, opens_up, opens_else}
 use borrow.Author.Rules.{rules}
 use Rattle.members.proofs.opens.Statement.{statement}
 use Rattle.members.proofs.opens.Tie as tie
@@ -50,7 +50,7 @@ returns-3 : tie.Need-returns-3
 returns-3 c =
     let start = c.before.before.before.before in
     ap not c.occurs.ensures
-    ∙ opens-else _ _ _ _ _ start.requires.0.2
+    ∙ opens_else _ _ _ _ _ start.requires.0.2
     (read_back w64 c.before.before.Cell-at.type-inv ∙ c.before.before.Cell-at.ensures)
 
 pub opens-spec : {M : Type 1} → statement M

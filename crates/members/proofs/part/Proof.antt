@@ -5,7 +5,7 @@ use native.Mathlib.Omega.{arith}
 use borrow.Author.Tests.{not-false}
 use Rattle.tables.specs.Layout.{Inside}
 use Rattle.tables.proofs.Reading.{row_inside}
-use Rattle.members.proofs.Parts.{left_has, run-has}
+use Rattle.members.proofs.Parts.{left_has, run_has}
 use Rattle.members.proofs.part.Statement.{statement}
 use Rattle.members.proofs.part.Tie as tie
 
@@ -38,7 +38,7 @@ run-requires c κs =
 returns-2 : tie.Need-returns-2
 returns-2 c =
     let start = c.before.before.before.before.before in
-    run-has start.args.work.now start.args.s start.args.c start.args.i start.requires.0.2
+    run_has start.args.work.now start.args.s start.args.c start.args.i start.requires.0.2
     start.requires.1.1 c.run.result
     (sym start.requires.1.0 ∙ not-false _ c.before.if1.false) c.run.ensures.0 c.run.ensures.1
 

@@ -15,7 +15,7 @@ use Rattle.tables.specs.Layout.{table_at}
 use Rattle.members.specs.Grouped.{in_front, leading}
 use Rattle.tables.specs.Order.{cell_at}
 use Rattle.tables.proofs.Reading.{length_table}
-use Rattle.members.proofs.Parts.{leading-more, leading-stops, leading-ends}
+use Rattle.members.proofs.Parts.{leading_more, leading_stops, leading_ends}
 use borrow.Author.Rules.{rules}
 use Rattle.members.proofs.run.Statement.{statement}
 use Rattle.members.proofs.run.Tie as tie
@@ -70,7 +70,7 @@ returns c =
     let then = c.before.before.before in
     let at = then.before.before in (
       at.loop.invariant.0,
-      leading-stops _ _ _ _ _ (here then) (sym (equal c.before) ∙ not-true _ c.if2.true) at.loop.invariant.1,
+      leading_stops _ _ _ _ _ (here then) (sym (equal c.before) ∙ not-true _ c.if2.true) at.loop.invariant.1,
     )
 
 add-i : tie.Need-overflow-add-i invariant-loop decreases-loop
@@ -84,14 +84,14 @@ loop-again c =
     let then = c.before.before.before in
     let at = then.before.before in (
       omega arith,
-      leading-more _ _ _ _ _ (here then) (sym (equal c.before) ∙ not-false _ c.if2.false) at.loop.invariant.1,
+      leading_more _ _ _ _ _ (here then) (sym (equal c.before) ∙ not-false _ c.if2.false) at.loop.invariant.1,
     )
 
 returns-2 : tie.Need-returns-2 invariant-loop decreases-loop
 returns-2 c =
     let at = c.before.before in
     let g = at.before.before.args in
-    (at.loop.invariant.0, leading-ends _ _ _ _ _ (omega (arith, length_table g.work.now g.s)) at.loop.invariant.1)
+    (at.loop.invariant.0, leading_ends _ _ _ _ _ (omega (arith, length_table g.work.now g.s)) at.loop.invariant.1)
 
 pub run_spec : {M : Type 1} → statement M
 run_spec =

@@ -4,7 +4,7 @@ use mathlib.Core.Path.{◌≡◌, sym, ap}
 use native.Mathlib.Omega.{arith}
 use lib.ListN.{length}
 use Rattle.nodesets.specs.Nodes.{ranks}
-use Rattle.nodesets.proofs.Ranks.{ranks_none, length_ranks, length-ranks-more}
+use Rattle.nodesets.proofs.Ranks.{ranks_none, length_ranks, length_ranks_more}
 use Rattle.nodesets.proofs.count.Statement.{statement}
 use Rattle.nodesets.proofs.count.Tie as tie
 
@@ -28,7 +28,7 @@ add-n c =
     let loop = c.before.before.loop in
     let marks = c.before.before.before.args.marks.now in
     omega
-    (arith, length_ranks (loop.v + 1) marks, length-ranks-more loop.v marks, c.before.before.before.well_formed.0.0)
+    (arith, length_ranks (loop.v + 1) marks, length_ranks_more loop.v marks, c.before.before.before.well_formed.0.0)
 
 add-v : tie.Need-overflow-add-v invariant-loop decreases-loop
 add-v c = omega arith
@@ -39,7 +39,7 @@ loop-less c = omega arith
 loop-again : tie.Need-loop-preserved invariant-loop decreases-loop
 loop-again c =
     let loop = c.before.before.loop in
-    (omega arith, omega (arith, length-ranks-more loop.v c.before.before.before.args.marks.now))
+    (omega arith, omega (arith, length_ranks_more loop.v c.before.before.before.args.marks.now))
 
 returns : tie.Need-returns invariant-loop decreases-loop
 returns c =

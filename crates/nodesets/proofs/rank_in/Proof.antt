@@ -1,6 +1,6 @@
 -- `marks::rank_in` meets its contract, item by item.
 use borrow.Author.Rules.{rules}
-use Rattle.nodesets.proofs.Nodes.{rank-node, rank_far, rank_integer, rank_truth}
+use Rattle.nodesets.proofs.Nodes.{rank_node, rank_far, rank_integer, rank_truth}
 use Rattle.nodesets.proofs.rank_in.Statement.{statement}
 use Rattle.nodesets.proofs.rank_in.Tie as tie
 
@@ -14,7 +14,7 @@ enum-told-2 : tie.Need-enum-told-2
 enum-told-2 c = search rules
 
 returns : tie.Need-returns
-returns c = λ d e. rank-node d c.before.before.before.item.given.1 e c.if1.true
+returns c = λ d e. rank_node d c.before.before.before.item.given.1 e c.if1.true
 
 returns-2 : tie.Need-returns-2
 returns-2 c = λ d e. rank_far d c.before.before.before.item.given.1 e c.if1.false

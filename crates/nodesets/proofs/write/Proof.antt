@@ -10,7 +10,7 @@ use mir.Facts.{to_z-of_z}
 use mir.Syntax.{w64}
 use Rattle.cells.specs.Cell.{node_cell}
 use Rattle.nodesets.specs.Nodes.{ListedNodes}
-use Rattle.nodesets.proofs.Writing.{laid_begin, laid_skip, node-take, ranks_room}
+use Rattle.nodesets.proofs.Writing.{laid_begin, laid_skip, node_take, ranks_room}
 use Rattle.nodesets.proofs.write.Statement.{statement}
 use Rattle.nodesets.proofs.write.Tie as tie
 
@@ -79,7 +79,7 @@ loop-again c =
       omega arith,
       ap length placed ∙ length-set loop.work (args.at + loop.n) (node_cell loop.v) ∙ loop.invariant.1,
       rw (placed, w.3)
-          (node-take args.marks.now args.at args.work.now loop.v loop.n loop.work loop.invariant.2
+          (node_take args.marks.now args.at args.work.now loop.v loop.n loop.work loop.invariant.2
           w.0.taken (room (record { before = c.before; if1 = w.0 }))),
     ))
     (λ w. (

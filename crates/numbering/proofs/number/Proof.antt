@@ -4,7 +4,7 @@ use Rattle.tables.specs.Layout.{Inside}
 use Rattle.numbering.proofs.Sorted.{column_p, numbers_within, number_within}
 use native.Mathlib.Omega.{arith}
 use Rattle.row_order.specs.Order.{Low}
-use Rattle.numbering.proofs.Owed.{positive, owed_none, owed_full, owed-laid, low, product, few}
+use Rattle.numbering.proofs.Owed.{positive, owed_none, owed_full, owed_laid, low, product, few}
 use borrow.Author.Rules.{rules}
 use Rattle.numbering.proofs.number.Statement.{statement}
 use Rattle.numbering.proofs.number.Tie as tie
@@ -97,7 +97,7 @@ returns-3 c =
     let sorted = arrange-of c.before.before in
     let fitting = sorted.before.before.before.before in
     let start = fitting.before.before.before.before.before in
-    owed-laid _ _ _ start.args.keys _ _ start.pre.1.0 _ _ (omega (arith, start.pre)) (room-here fitting)
+    owed_laid _ _ _ start.args.keys _ _ start.pre.1.0 _ _ (omega (arith, start.pre)) (room-here fitting)
     sorted.arrange.ensures
     c.before.lay.ensures
 

@@ -1,7 +1,7 @@
 -- `put_digits` meets its contract: the digits before the last by the function's own promise, then the last. The measure
 -- is how many digits are left.
 use native.Mathlib.Omega.{arith}
-use Rattle.pen.proofs.Putting.{pens_none, pens-more, pens-as}
+use Rattle.pen.proofs.Putting.{pens_none, pens_more, pens_as}
 use Rattle.pen.proofs.Digits.{digits_none, digits_one, digits_more, digits_end}
 use borrow.Author.Rules.{rules}
 use Prim.Native.Nat.{ℕ, ◌<◌}
@@ -32,7 +32,7 @@ calls t =
     (digit-reads.Asked, digit-reads.Learnt, put_reads.Asked, put_reads.Learnt, put-digits-below t, put-digits.Post)
 
 put-digits-returns : (t : ℕ) → put-digits-lts.Need-returns (calls t) (put-digits-at t) put-digits.Post
-put-digits-returns t c = pens-as (digits_none _ _ c.if1.true) (pens_none _ _)
+put-digits-returns t c = pens_as (digits_none _ _ c.if1.true) (pens_none _ _)
 
 put-digits-digit-requires : (t : ℕ) → put-digits-lts.Need-digit-requires (calls t) (put-digits-at t) put-digits.Post
 put-digits-digit-requires t c κs = search rules
@@ -46,7 +46,7 @@ put-digits-same-length t c = search rules
 put-digits-returns-2 : (t : ℕ) → put-digits-lts.Need-returns-2 (calls t) (put-digits-at t) put-digits.Post
 put-digits-returns-2 t c =
     let last = c.before.before in
-    pens-as (digits_one _ _ _ (omega arith) (omega arith) last.before.digit.ensures) last.put.ensures
+    pens_as (digits_one _ _ _ (omega arith) (omega arith) last.before.digit.ensures) last.put.ensures
 
 put-digits-sub-put-digits : (t : ℕ) → put-digits-lts.Need-overflow-sub-put-digits (calls t) (put-digits-at t) put-digits.Post
 put-digits-sub-put-digits t c = search rules
@@ -69,8 +69,8 @@ put-digits-returns-3 : (t : ℕ) → put-digits-lts.Need-returns-3 (calls t) (pu
 put-digits-returns-3 t c =
     let last = c.before.before in
     let front = last.before.before.before.before.before in
-    pens-as (digits_more _ _ _ (omega arith) (omega arith) last.before.digit2.ensures)
-    (pens-more front.put-digits.ensures last.put2.ensures)
+    pens_as (digits_more _ _ _ (omega arith) (omega arith) last.before.digit2.ensures)
+    (pens_more front.put-digits.ensures last.put2.ensures)
 
 pub +put-digits-spec : {M : Type 1} → statement M
 +put-digits-spec = close μ-put-digits λ t. put-digits-lts.spec (calls t)

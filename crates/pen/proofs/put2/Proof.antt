@@ -1,6 +1,6 @@
 -- `put2` meets its contract: the higher byte, then the lower.
 use Rattle.cells.specs.Bytes.{bytes_of}
-use Rattle.pen.proofs.Putting.{pens-more}
+use Rattle.pen.proofs.Putting.{pens_more}
 use borrow.Author.Rules.{rules}
 use Rattle.pen.proofs.put2.Statement.{statement}
 use Rattle.pen.proofs.put2.Tie as tie
@@ -25,7 +25,7 @@ unfolding bytes_of
 returns c =
     let last = c.before.before in
     let first = last.before.before.before.before in
-    pens-more first.put.ensures last.put2.ensures
+    pens_more first.put.ensures last.put2.ensures
 
 pub put2-spec : {M : Type 1} → statement M
 put2-spec =

@@ -2,7 +2,7 @@
 use mathlib.Core.Path.{sym, ap, ◌∙◌}
 use mir.Facts.{to_z-of_z}
 use Rattle.cells.specs.Bytes.{bytes_of, bits8}
-use Rattle.pen.proofs.Putting.{pens-more, pens-as, bytes_of_join}
+use Rattle.pen.proofs.Putting.{pens_more, pens_as, bytes_of_join}
 use borrow.Author.Rules.{rules}
 use Rattle.pen.proofs.put8.Statement.{statement}
 use Rattle.pen.proofs.put8.Tie as tie
@@ -26,8 +26,8 @@ returns c =
     let first = last.before.before.before.before in
     let bits = first.before.before in
     let cell = to_z-of_z bits.before.before.ranges.cell in
-    pens-as (sym (bytes_of_join 4 4 _) ∙ ap (bytes_of 8) (bits.bits_of.ensures ∙ ap bits8 cell))
-    (pens-more first.put4.ensures last.put42.ensures)
+    pens_as (sym (bytes_of_join 4 4 _) ∙ ap (bytes_of 8) (bits.bits_of.ensures ∙ ap bits8 cell))
+    (pens_more first.put4.ensures last.put42.ensures)
 
 pub put8-spec : {M : Type 1} → statement M
 put8-spec = tie.close (tie.spec bits-of-requires put4-requires put4-requires-2 same_length returns)

@@ -1,5 +1,5 @@
 -- `put_four` meets its contract.
-use Rattle.pen.proofs.Putting.{pens-more}
+use Rattle.pen.proofs.Putting.{pens_more}
 use borrow.Author.Rules.{rules}
 use Rattle.pen.proofs.put_four.Statement.{statement}
 use Rattle.pen.proofs.put_four.Tie as tie
@@ -17,7 +17,7 @@ returns : tie.Need-returns
 returns c =
     let last = c.before.before in
     let first = last.before.before.before.before in
-    pens-more first.put-pair.ensures last.put-pair2.ensures
+    pens_more first.put-pair.ensures last.put-pair2.ensures
 
 pub put-four-spec : {M : Type 1} → statement M
 put-four-spec = tie.close (tie.spec put-pair-requires put-pair-requires-2 same_length returns)

@@ -1,6 +1,6 @@
 -- `put_signed` meets its contract, by the integer's sign.
 use mir.Facts.{to_z-of_z}
-use Rattle.pen.proofs.Putting.{pens-more, pens-as}
+use Rattle.pen.proofs.Putting.{pens_more, pens_as}
 use Rattle.pen.proofs.Magnitudes.{signed_minus, signed_plain}
 use borrow.Author.Rules.{rules}
 use Rattle.pen.proofs.put_signed.Statement.{statement}
@@ -23,10 +23,10 @@ returns c =
     let number = c.before.before in
     let sign = number.before.before.before.before.before in
     let under = sign.before.before in
-    pens-as
+    pens_as
     (signed_minus _ _ _ (to_z-of_z under.before.before.ranges.z) number.before.magnitude.ensures
     under.if1.true)
-    (pens-more sign.put.ensures number.put-number.ensures)
+    (pens_more sign.put.ensures number.put-number.ensures)
 
 magnitude-requires-2 : tie.Need-magnitude-requires-2
 magnitude-requires-2 c κs = search rules
@@ -41,7 +41,7 @@ returns-2 : tie.Need-returns-2
 returns-2 c =
     let number = c.before.before in
     let over = number.before.before.before in
-    pens-as
+    pens_as
     (signed_plain _ _ _ (to_z-of_z over.before.before.ranges.z) number.before.magnitude2.ensures
     over.if1.false)
     number.put-number2.ensures

@@ -1,5 +1,5 @@
 -- `put_three` meets its contract.
-use Rattle.pen.proofs.Putting.{pens-more}
+use Rattle.pen.proofs.Putting.{pens_more}
 use borrow.Author.Rules.{rules}
 use Rattle.pen.proofs.put_three.Statement.{statement}
 use Rattle.pen.proofs.put_three.Tie as tie
@@ -17,7 +17,7 @@ returns : tie.Need-returns
 returns c =
     let last = c.before.before in
     let first = last.before.before.before.before in
-    pens-more first.put.ensures last.put-pair.ensures
+    pens_more first.put.ensures last.put-pair.ensures
 
 pub put-three-spec : {M : Type 1} → statement M
 put-three-spec = tie.close (tie.spec put-requires put-pair-requires same_length returns)

@@ -5,7 +5,7 @@ use native.Mathlib.Omega.{arith}
 use lib.ListN.{length, take}
 use lib.Seq.{length-take-le}
 use Rattle.pen.specs.Penned.{Pens}
-use Rattle.pen.proofs.Putting.{pens_none, pens_length, word_more, word-whole}
+use Rattle.pen.proofs.Putting.{pens_none, pens_length, word_more, word_whole}
 use borrow.Author.Rules.{rules}
 use Rattle.pen.proofs.put_word.Statement.{statement}
 use Rattle.pen.proofs.put_word.Tie as tie
@@ -44,7 +44,7 @@ same_length : tie.Need-same-length invariant-loop decreases-loop
 same_length c = pens_length c.before.loop.invariant.1
 
 returns : tie.Need-returns invariant-loop decreases-loop
-returns c = word-whole _ c.before.loop.i (omega arith) c.before.loop.invariant.1
+returns c = word_whole _ c.before.loop.i (omega arith) c.before.loop.invariant.1
 
 pub put-word-spec : {M : Type 1} → statement M
 put-word-spec =

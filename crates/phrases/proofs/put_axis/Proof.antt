@@ -1,6 +1,6 @@
 -- `put_axis` meets its contract: the axis decides.
 use mathlib.Core.Path.{sym, ap}
-use Rattle.pen.proofs.Putting.{pens-as}
+use Rattle.pen.proofs.Putting.{pens_as}
 use Rattle.grammar.specs.Words.{axis_word}
 use borrow.Author.Rules.{rules}
 use Rattle.phrases.proofs.put_axis.Statement.{statement}
@@ -83,7 +83,7 @@ same_length c = search rules
 
 returns : tie.Need-returns
 returns c =
-    pens-as (sym (ap (λ x. (axis_word x).bytes) c.before.before.before.before.before.enum_told.given.1))
+    pens_as (sym (ap (λ x. (axis_word x).bytes) c.before.before.before.before.before.enum_told.given.1))
     c.before.before.put_word.ensures
 
 same-length-2 : tie.Need-same-length-2
@@ -91,7 +91,7 @@ same-length-2 c = search rules
 
 returns-2 : tie.Need-returns-2
 returns-2 c =
-    pens-as (sym (ap (λ x. (axis_word x).bytes) c.before.before.before.before.before.enum-told2.given.1))
+    pens_as (sym (ap (λ x. (axis_word x).bytes) c.before.before.before.before.before.enum-told2.given.1))
     c.before.before.put-word2.ensures
 
 same-length-3 : tie.Need-same-length-3
@@ -99,7 +99,7 @@ same-length-3 c = search rules
 
 returns-3 : tie.Need-returns-3
 returns-3 c =
-    pens-as (sym (ap (λ x. (axis_word x).bytes) c.before.before.before.before.before.enum-told3.given.1))
+    pens_as (sym (ap (λ x. (axis_word x).bytes) c.before.before.before.before.before.enum-told3.given.1))
     c.before.before.put-word3.ensures
 
 same-length-4 : tie.Need-same-length-4
@@ -107,7 +107,7 @@ same-length-4 c = search rules
 
 returns-4 : tie.Need-returns-4
 returns-4 c =
-    pens-as (sym (ap (λ x. (axis_word x).bytes) c.before.before.before.before.before.enum-told4.given.1))
+    pens_as (sym (ap (λ x. (axis_word x).bytes) c.before.before.before.before.before.enum-told4.given.1))
     c.before.before.put-word4.ensures
 
 same-length-5 : tie.Need-same-length-5
@@ -115,7 +115,7 @@ same-length-5 c = search rules
 
 returns-5 : tie.Need-returns-5
 returns-5 c =
-    pens-as (sym (ap (λ x. (axis_word x).bytes) c.before.before.before.before.before.enum-told5.given.1))
+    pens_as (sym (ap (λ x. (axis_word x).bytes) c.before.before.before.before.before.enum-told5.given.1))
     c.before.before.put-word5.ensures
 
 same-length-6 : tie.Need-same-length-6
@@ -123,7 +123,7 @@ same-length-6 c = search rules
 
 returns-6 : tie.Need-returns-6
 returns-6 c =
-    pens-as (sym (ap (λ x. (axis_word x).bytes) c.before.before.before.before.before.enum-told6.given.1))
+    pens_as (sym (ap (λ x. (axis_word x).bytes) c.before.before.before.before.before.enum-told6.given.1))
     c.before.before.put-word6.ensures
 
 same-length-7 : tie.Need-same-length-7
@@ -131,7 +131,7 @@ same-length-7 c = search rules
 
 returns-7 : tie.Need-returns-7
 returns-7 c =
-    pens-as (sym (ap (λ x. (axis_word x).bytes) c.before.before.before.before.before.enum-told7.given.1))
+    pens_as (sym (ap (λ x. (axis_word x).bytes) c.before.before.before.before.before.enum-told7.given.1))
     c.before.before.put-word7.ensures
 
 same-length-8 : tie.Need-same-length-8
@@ -139,7 +139,7 @@ same-length-8 c = search rules
 
 returns-8 : tie.Need-returns-8
 returns-8 c =
-    pens-as (sym (ap (λ x. (axis_word x).bytes) c.before.before.before.before.before.enum-told8.given.1))
+    pens_as (sym (ap (λ x. (axis_word x).bytes) c.before.before.before.before.before.enum-told8.given.1))
     c.before.before.put-word8.ensures
 
 pub put-axis-spec : {M : Type 1} → statement M

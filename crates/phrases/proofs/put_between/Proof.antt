@@ -1,6 +1,6 @@
 -- `put_between` meets its contract: the record decides.
 use mathlib.Core.Path.{sym, ap}
-use Rattle.pen.proofs.Putting.{pens_none, pens-as}
+use Rattle.pen.proofs.Putting.{pens_none, pens_as}
 use Rattle.query_records.specs.Decoded.{record_of}
 use Rattle.phrases.specs.Phrases.{between_of}
 use borrow.Author.Rules.{rules}
@@ -67,25 +67,25 @@ enum-told-11 c = search rules
 returns : tie.Need-returns
 unfolding between_of record_of
 returns c =
-    pens-as (sym (ap (λ k. between_of (record_of k)) c.enum_told.given.1))
+    pens_as (sym (ap (λ k. between_of (record_of k)) c.enum_told.given.1))
     (pens_none _ _)
 
 returns-2 : tie.Need-returns-2
 unfolding between_of record_of
 returns-2 c =
-    pens-as (sym (ap (λ k. between_of (record_of k)) c.enum-told2.given.1))
+    pens_as (sym (ap (λ k. between_of (record_of k)) c.enum-told2.given.1))
     (pens_none _ _)
 
 returns-3 : tie.Need-returns-3
 unfolding between_of record_of
 returns-3 c =
-    pens-as (sym (ap (λ k. between_of (record_of k)) c.enum-told3.given.1))
+    pens_as (sym (ap (λ k. between_of (record_of k)) c.enum-told3.given.1))
     (pens_none _ _)
 
 returns-4 : tie.Need-returns-4
 unfolding between_of record_of
 returns-4 c =
-    pens-as (sym (ap (λ k. between_of (record_of k)) c.enum-told4.given.1))
+    pens_as (sym (ap (λ k. between_of (record_of k)) c.enum-told4.given.1))
     (pens_none _ _)
 
 same_length : tie.Need-same-length
@@ -94,7 +94,7 @@ same_length c = search rules
 returns-5 : tie.Need-returns-5
 unfolding between_of record_of
 returns-5 c =
-    pens-as (sym (ap (λ k. between_of (record_of k)) c.before.before.before.before.before.enum-told5.given.1))
+    pens_as (sym (ap (λ k. between_of (record_of k)) c.before.before.before.before.before.enum-told5.given.1))
     c.before.before.put_word.ensures
 
 same-length-2 : tie.Need-same-length-2
@@ -103,7 +103,7 @@ same-length-2 c = search rules
 returns-6 : tie.Need-returns-6
 unfolding between_of record_of
 returns-6 c =
-    pens-as (sym (ap (λ k. between_of (record_of k)) c.before.before.before.before.before.enum-told6.given.1))
+    pens_as (sym (ap (λ k. between_of (record_of k)) c.before.before.before.before.before.enum-told6.given.1))
     c.before.before.put-word2.ensures
 
 same-length-3 : tie.Need-same-length-3
@@ -112,13 +112,13 @@ same-length-3 c = search rules
 returns-7 : tie.Need-returns-7
 unfolding between_of record_of
 returns-7 c =
-    pens-as (sym (ap (λ k. between_of (record_of k)) c.before.before.before.before.before.enum-told7.given.1))
+    pens_as (sym (ap (λ k. between_of (record_of k)) c.before.before.before.before.before.enum-told7.given.1))
     c.before.before.put-word3.ensures
 
 returns-8 : tie.Need-returns-8
 unfolding between_of record_of
 returns-8 c =
-    pens-as (sym (ap (λ k. between_of (record_of k)) c.enum-told8.given.1))
+    pens_as (sym (ap (λ k. between_of (record_of k)) c.enum-told8.given.1))
     (pens_none _ _)
 
 same-length-4 : tie.Need-same-length-4
@@ -127,25 +127,25 @@ same-length-4 c = search rules
 returns-9 : tie.Need-returns-9
 unfolding between_of record_of
 returns-9 c =
-    pens-as (sym (ap (λ k. between_of (record_of k)) c.before.before.before.before.before.kind.given.1))
+    pens_as (sym (ap (λ k. between_of (record_of k)) c.before.before.before.before.before.kind.given.1))
     c.before.before.put_function.ensures
 
 returns-10 : tie.Need-returns-10
 unfolding between_of record_of
 returns-10 c =
-    pens-as (sym (ap (λ k. between_of (record_of k)) c.enum-told9.given.1))
+    pens_as (sym (ap (λ k. between_of (record_of k)) c.enum-told9.given.1))
     (pens_none _ _)
 
 returns-11 : tie.Need-returns-11
 unfolding between_of record_of
 returns-11 c =
-    pens-as (sym (ap (λ k. between_of (record_of k)) c.enum-told10.given.1))
+    pens_as (sym (ap (λ k. between_of (record_of k)) c.enum-told10.given.1))
     (pens_none _ _)
 
 returns-12 : tie.Need-returns-12
 unfolding between_of record_of
 returns-12 c =
-    pens-as (sym (ap (λ k. between_of (record_of k)) c.enum-told11.given.1))
+    pens_as (sym (ap (λ k. between_of (record_of k)) c.enum-told11.given.1))
     (pens_none _ _)
 
 pub put-between-spec : {M : Type 1} → statement M

@@ -1,6 +1,6 @@
 -- `put_for` meets its contract: the word, the variable, and what follows it.
 use Rattle.grammar.specs.Written.{for_head}
-use Rattle.pen.proofs.Putting.{pens-more}
+use Rattle.pen.proofs.Putting.{pens_more}
 use borrow.Author.Rules.{rules}
 use Rattle.phrases.proofs.put_for.Statement.{statement}
 use Rattle.phrases.proofs.put_for.Tie as tie
@@ -29,7 +29,7 @@ returns c =
     let last = c.before.before in
     let middle = last.before.before.before.before.before in
     let first = middle.before.before.before.before in
-    pens-more first.put_word.ensures (pens-more middle.put-variable.ensures last.put-word2.ensures)
+    pens_more first.put_word.ensures (pens_more middle.put-variable.ensures last.put-word2.ensures)
 
 pub put-for-spec : {M : Type 1} → statement M
 put-for-spec =

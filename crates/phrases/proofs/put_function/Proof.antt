@@ -1,6 +1,6 @@
 -- `put_function` meets its contract: the function decides.
 use mathlib.Core.Path.{sym, ap}
-use Rattle.pen.proofs.Putting.{pens-as}
+use Rattle.pen.proofs.Putting.{pens_as}
 use Rattle.grammar.specs.Written.{spaced, function_word}
 use borrow.Author.Rules.{rules}
 use Rattle.phrases.proofs.put_function.Statement.{statement}
@@ -65,7 +65,7 @@ same_length c = search rules
 
 returns : tie.Need-returns
 returns c =
-    pens-as (sym (ap (λ g. spaced (function_word g)) c.before.before.before.before.before.enum_told.given.1))
+    pens_as (sym (ap (λ g. spaced (function_word g)) c.before.before.before.before.before.enum_told.given.1))
     c.before.before.put_word.ensures
 
 same-length-2 : tie.Need-same-length-2
@@ -73,7 +73,7 @@ same-length-2 c = search rules
 
 returns-2 : tie.Need-returns-2
 returns-2 c =
-    pens-as (sym (ap (λ g. spaced (function_word g)) c.before.before.before.before.before.enum-told2.given.1))
+    pens_as (sym (ap (λ g. spaced (function_word g)) c.before.before.before.before.before.enum-told2.given.1))
     c.before.before.put-word2.ensures
 
 same-length-3 : tie.Need-same-length-3
@@ -81,7 +81,7 @@ same-length-3 c = search rules
 
 returns-3 : tie.Need-returns-3
 returns-3 c =
-    pens-as (sym (ap (λ g. spaced (function_word g)) c.before.before.before.before.before.enum-told3.given.1))
+    pens_as (sym (ap (λ g. spaced (function_word g)) c.before.before.before.before.before.enum-told3.given.1))
     c.before.before.put-word3.ensures
 
 same-length-4 : tie.Need-same-length-4
@@ -89,7 +89,7 @@ same-length-4 c = search rules
 
 returns-4 : tie.Need-returns-4
 returns-4 c =
-    pens-as (sym (ap (λ g. spaced (function_word g)) c.before.before.before.before.before.enum-told4.given.1))
+    pens_as (sym (ap (λ g. spaced (function_word g)) c.before.before.before.before.before.enum-told4.given.1))
     c.before.before.put-word4.ensures
 
 same-length-5 : tie.Need-same-length-5
@@ -97,7 +97,7 @@ same-length-5 c = search rules
 
 returns-5 : tie.Need-returns-5
 returns-5 c =
-    pens-as (sym (ap (λ g. spaced (function_word g)) c.before.before.before.before.before.enum-told5.given.1))
+    pens_as (sym (ap (λ g. spaced (function_word g)) c.before.before.before.before.before.enum-told5.given.1))
     c.before.before.put-word5.ensures
 
 same-length-6 : tie.Need-same-length-6
@@ -105,7 +105,7 @@ same-length-6 c = search rules
 
 returns-6 : tie.Need-returns-6
 returns-6 c =
-    pens-as (sym (ap (λ g. spaced (function_word g)) c.before.before.before.before.before.enum-told6.given.1))
+    pens_as (sym (ap (λ g. spaced (function_word g)) c.before.before.before.before.before.enum-told6.given.1))
     c.before.before.put-word6.ensures
 
 pub put-function-spec : {M : Type 1} → statement M

@@ -1,7 +1,7 @@
 -- `put_head` meets its contract: the record decides.
 -- `put_head` meets its contract: the record decides.
 use mathlib.Core.Path.{sym, ap, subst}
-use Rattle.pen.proofs.Putting.{pens_none, pens-as}
+use Rattle.pen.proofs.Putting.{pens_none, pens_as}
 use native.Mathlib.Omega.{arith}
 use Rattle.query_records.specs.Decoded.{record_of, SmallLiteral}
 use Rattle.query_records.specs.Fields.{Ranged}
@@ -106,7 +106,7 @@ same_length c = search rules
 returns : tie.Need-returns
 unfolding head_of record_of
 returns c =
-    pens-as (sym (ap (λ k. head_of (record_of k)) c.before.before.before.before.before.kind.given.1))
+    pens_as (sym (ap (λ k. head_of (record_of k)) c.before.before.before.before.before.kind.given.1))
     c.before.before.put_item.ensures
 
 same-length-2 : tie.Need-same-length-2
@@ -115,7 +115,7 @@ same-length-2 c = search rules
 returns-2 : tie.Need-returns-2
 unfolding head_of record_of
 returns-2 c =
-    pens-as (sym (ap (λ k. head_of (record_of k)) c.before.before.before.before.before.enum_told.given.1))
+    pens_as (sym (ap (λ k. head_of (record_of k)) c.before.before.before.before.before.enum_told.given.1))
     c.before.before.put_word.ensures
 
 same-length-3 : tie.Need-same-length-3
@@ -124,7 +124,7 @@ same-length-3 c = search rules
 returns-3 : tie.Need-returns-3
 unfolding head_of record_of
 returns-3 c =
-    pens-as (sym (ap (λ k. head_of (record_of k)) c.before.before.before.before.before.kind2.given.1))
+    pens_as (sym (ap (λ k. head_of (record_of k)) c.before.before.before.before.before.kind2.given.1))
     c.before.before.put-root.ensures
 
 same-length-4 : tie.Need-same-length-4
@@ -133,13 +133,13 @@ same-length-4 c = search rules
 returns-4 : tie.Need-returns-4
 unfolding head_of record_of
 returns-4 c =
-    pens-as (sym (ap (λ k. head_of (record_of k)) c.before.before.before.before.before.kind3.given.1))
+    pens_as (sym (ap (λ k. head_of (record_of k)) c.before.before.before.before.before.kind3.given.1))
     c.before.before.put-variable.ensures
 
 returns-5 : tie.Need-returns-5
 unfolding head_of record_of
 returns-5 c =
-    pens-as (sym (ap (λ k. head_of (record_of k)) c.enum-told2.given.1))
+    pens_as (sym (ap (λ k. head_of (record_of k)) c.enum-told2.given.1))
     (pens_none _ _)
 
 same-length-5 : tie.Need-same-length-5
@@ -148,7 +148,7 @@ same-length-5 c = search rules
 returns-6 : tie.Need-returns-6
 unfolding head_of record_of
 returns-6 c =
-    pens-as (sym (ap (λ k. head_of (record_of k)) c.before.before.before.before.before.kind4.given.1))
+    pens_as (sym (ap (λ k. head_of (record_of k)) c.before.before.before.before.before.kind4.given.1))
     c.before.before.put-let.ensures
 
 same-length-6 : tie.Need-same-length-6
@@ -157,7 +157,7 @@ same-length-6 c = search rules
 returns-7 : tie.Need-returns-7
 unfolding head_of record_of
 returns-7 c =
-    pens-as (sym (ap (λ k. head_of (record_of k)) c.before.before.before.before.before.kind5.given.1))
+    pens_as (sym (ap (λ k. head_of (record_of k)) c.before.before.before.before.before.kind5.given.1))
     c.before.before.put-for.ensures
 
 same-length-7 : tie.Need-same-length-7
@@ -166,13 +166,13 @@ same-length-7 c = search rules
 returns-8 : tie.Need-returns-8
 unfolding head_of record_of
 returns-8 c =
-    pens-as (sym (ap (λ k. head_of (record_of k)) c.before.before.before.before.before.enum-told3.given.1))
+    pens_as (sym (ap (λ k. head_of (record_of k)) c.before.before.before.before.before.enum-told3.given.1))
     c.before.before.put-word2.ensures
 
 returns-9 : tie.Need-returns-9
 unfolding head_of record_of
 returns-9 c =
-    pens-as (sym (ap (λ k. head_of (record_of k)) c.enum-told4.given.1))
+    pens_as (sym (ap (λ k. head_of (record_of k)) c.enum-told4.given.1))
     (pens_none _ _)
 
 same-length-8 : tie.Need-same-length-8
@@ -181,7 +181,7 @@ same-length-8 c = search rules
 returns-10 : tie.Need-returns-10
 unfolding head_of record_of
 returns-10 c =
-    pens-as (sym (ap (λ k. head_of (record_of k)) c.before.before.before.before.before.enum-told5.given.1))
+    pens_as (sym (ap (λ k. head_of (record_of k)) c.before.before.before.before.before.enum-told5.given.1))
     c.before.before.put-word3.ensures
 
 same-length-9 : tie.Need-same-length-9
@@ -190,13 +190,13 @@ same-length-9 c = search rules
 returns-11 : tie.Need-returns-11
 unfolding head_of record_of
 returns-11 c =
-    pens-as (sym (ap (λ k. head_of (record_of k)) c.before.before.before.before.before.enum-told6.given.1))
+    pens_as (sym (ap (λ k. head_of (record_of k)) c.before.before.before.before.before.enum-told6.given.1))
     c.before.before.put-word4.ensures
 
 returns-12 : tie.Need-returns-12
 unfolding head_of record_of
 returns-12 c =
-    pens-as (sym (ap (λ k. head_of (record_of k)) c.enum-told7.given.1))
+    pens_as (sym (ap (λ k. head_of (record_of k)) c.enum-told7.given.1))
     (pens_none _ _)
 
 pub put-head-spec : {M : Type 1} → statement M

@@ -7,7 +7,7 @@ use Rattle.cells.specs.Cell.{held, cell_of}
 use Rattle.cells.specs.Small.{Small}
 use Rattle.pen.specs.Decimal as Pen
 use Rattle.grammar.specs.Written.{item_text}
-use Rattle.pen.proofs.Putting.{pens_none, pens-as}
+use Rattle.pen.proofs.Putting.{pens_none, pens_as}
 use Rattle.phrases.proofs.Phrasing.{item_integer, item_truth, item_node}
 use borrow.Author.Rules.{rules}
 use Rattle.phrases.proofs.put_item.Statement.{statement}
@@ -39,7 +39,7 @@ returns : tie.Need-returns
 returns c =
     let put = c.before.before in
     let case = put.before.before in
-    pens-as
+    pens_as
     (ap Pen.signed (to_z-of_z (narrow case))
     ∙ sym (item_integer _ (narrow case))
     ∙ sym (ap (λ i. item_text (held (cell_of i))) case.before.item.given.1))
@@ -52,13 +52,13 @@ returns-2 : tie.Need-returns-2
 returns-2 c =
     let put = c.before.before in
     let case = put.before.before in
-    pens-as (sym (ap (λ i. item_text (held (cell_of i))) case.before.item2.given.1 ∙ item_truth _))
+    pens_as (sym (ap (λ i. item_text (held (cell_of i))) case.before.item2.given.1 ∙ item_truth _))
     put.put-truth.ensures
 
 returns-3 : tie.Need-returns-3
 returns-3 c =
     let told = c.enum_told.given.1 in
-    pens-as
+    pens_as
     (sym
     (ap (λ i. item_text (held (cell_of i))) told
     ∙ item_node _ (subst Small told c.before.before.before.requires.0)))

@@ -5,7 +5,7 @@ use Prim.Native.Nat.{ℕ}
 use mathlib.Core.List.{List, [], ◌∷◌, ◌++◌}
 use Rattle.grammar.specs.Words.{root_word}
 use Rattle.grammar.specs.Written.{root_text}
-use Rattle.pen.proofs.Putting.{pens-as, pens-more}
+use Rattle.pen.proofs.Putting.{pens_as, pens_more}
 use Rattle.phrases.proofs.Phrasing.{decimal_room}
 use borrow.Author.Rules.{rules}
 use Rattle.phrases.proofs.put_root.Statement.{statement}
@@ -36,7 +36,7 @@ returns c =
     let last = c.before.before in
     let middle = last.before.before.before.before in
     let first = middle.before.before.before.before in
-    pens-more first.put_word.ensures (pens-more middle.put-number.ensures last.put.ensures)
+    pens_more first.put_word.ensures (pens_more middle.put-number.ensures last.put.ensures)
 
 pub put-root-spec : {M : Type 1} → statement M
 put-root-spec =

@@ -1,7 +1,7 @@
 -- `put_step` meets its contract: the slash, the axis, the colons, and the test.
 use native.Mathlib.Omega.{arith}
 use Rattle.grammar.specs.Written.{step_text}
-use Rattle.pen.proofs.Putting.{pens-more}
+use Rattle.pen.proofs.Putting.{pens_more}
 use Rattle.phrases.proofs.Phrasing.{axis_room}
 use borrow.Author.Rules.{rules}
 use Rattle.phrases.proofs.put_step.Statement.{statement}
@@ -42,8 +42,8 @@ returns c =
     let colons = test.before.before.before.before in
     let axis = colons.before.before.before.before.before in
     let slash = axis.before.before.before.before in
-    pens-more slash.put.ensures
-    (pens-more axis.put-axis.ensures (pens-more colons.put_word.ensures test.put-test.ensures))
+    pens_more slash.put.ensures
+    (pens_more axis.put-axis.ensures (pens_more colons.put_word.ensures test.put-test.ensures))
 
 pub put-step-spec : {M : Type 1} → statement M
 put-step-spec =

@@ -1,6 +1,6 @@
 -- `put_test` meets its contract: the test decides.
 use mathlib.Core.Path.{sym, ap}
-use Rattle.pen.proofs.Putting.{pens-as}
+use Rattle.pen.proofs.Putting.{pens_as}
 use Rattle.grammar.specs.Written.{test_text}
 use borrow.Author.Rules.{rules}
 use Rattle.phrases.proofs.put_test.Statement.{statement}
@@ -45,7 +45,7 @@ same_length c = search rules
 returns : tie.Need-returns
 unfolding test_text
 returns c =
-    pens-as (sym (ap test_text c.before.before.before.before.before.enum_told.given.1))
+    pens_as (sym (ap test_text c.before.before.before.before.before.enum_told.given.1))
     c.before.before.put_word.ensures
 
 same-length-2 : tie.Need-same-length-2
@@ -54,7 +54,7 @@ same-length-2 c = search rules
 returns-2 : tie.Need-returns-2
 unfolding test_text
 returns-2 c =
-    pens-as (sym (ap test_text c.before.before.before.before.before.enum-told2.given.1))
+    pens_as (sym (ap test_text c.before.before.before.before.before.enum-told2.given.1))
     c.before.before.put-word2.ensures
 
 same-length-3 : tie.Need-same-length-3
@@ -63,7 +63,7 @@ same-length-3 c = search rules
 returns-3 : tie.Need-returns-3
 unfolding test_text
 returns-3 c =
-    pens-as (sym (ap test_text c.before.before.before.before.before.enum-told3.given.1))
+    pens_as (sym (ap test_text c.before.before.before.before.before.enum-told3.given.1))
     c.before.before.put-word3.ensures
 
 same-length-4 : tie.Need-same-length-4
@@ -72,7 +72,7 @@ same-length-4 c = search rules
 returns-4 : tie.Need-returns-4
 unfolding test_text
 returns-4 c =
-    pens-as (sym (ap test_text c.before.before.before.before.before.test.given.1))
+    pens_as (sym (ap test_text c.before.before.before.before.before.test.given.1))
     c.before.before.put-name.ensures
 
 pub put-test-spec : {M : Type 1} → statement M

@@ -1,7 +1,7 @@
 -- `put_truth` meets its contract.
 use mathlib.Core.Path.{sym, ap}
 use Rattle.grammar.specs.Written.{truth_text}
-use Rattle.pen.proofs.Putting.{pens-as}
+use Rattle.pen.proofs.Putting.{pens_as}
 use borrow.Author.Rules.{rules}
 use Rattle.phrases.proofs.put_truth.Statement.{statement}
 use Rattle.phrases.proofs.put_truth.Tie as tie
@@ -24,7 +24,7 @@ same_length c = search rules
 returns : tie.Need-returns
 returns c =
     let word = c.before.before in
-    pens-as (sym (ap truth_text word.before.before.before.if1.true)) word.put_word.ensures
+    pens_as (sym (ap truth_text word.before.before.before.if1.true)) word.put_word.ensures
 
 same-length-2 : tie.Need-same-length-2
 same-length-2 c = search rules
@@ -32,7 +32,7 @@ same-length-2 c = search rules
 returns-2 : tie.Need-returns-2
 returns-2 c =
     let word = c.before.before in
-    pens-as (sym (ap truth_text word.before.before.before.if1.false)) word.put-word2.ensures
+    pens_as (sym (ap truth_text word.before.before.before.if1.false)) word.put-word2.ensures
 
 pub put-truth-spec : {M : Type 1} → statement M
 put-truth-spec =

@@ -8,7 +8,7 @@ use Rattle.meaning.specs.Plan.{mark_rt, mark_ra, mark_rp, mark_ru, mark_rd, mark
 use Rattle.meaning.specs.Plan.{mark_re, mark_rk, mark_rx, mark_ro}
 use Rattle.plan_records.specs.Arms as Arms
 use Rattle.plan_records.proofs.Sized.{there}
-use Rattle.plan_records.proofs.Arms.{of-mark, mark_cut, mark_gap, mark-none}
+use Rattle.plan_records.proofs.Arms.{of_mark, mark_cut, mark_gap, mark_none}
 use Rattle.plan_records.proofs.read.Statement.{statement}
 use Rattle.plan_records.proofs.read.Tie as tie
 
@@ -83,7 +83,7 @@ unfolding operator_of Arms.one
 returns-2 c =
     let a = (start_of c.before.before.before).args in
     let m = c.before.before.word2 in
-    of-mark a.plan.now a.at c.one.result m.result mark_rt
+    of_mark a.plan.now a.at c.one.result m.result mark_rt
     m.ensures.0 c.before.match.keys1 c.one.ensures
 
 returns-3 : tie.Need-returns-3
@@ -91,7 +91,7 @@ unfolding operator_of Arms.attach
 returns-3 c =
     let a = (start_of c.before.before.before).args in
     let m = c.before.before.word2 in
-    of-mark a.plan.now a.at c.attach.result m.result mark_ra
+    of_mark a.plan.now a.at c.attach.result m.result mark_ra
     m.ensures.0 c.before.match.keys2 c.attach.ensures
 
 returns-4 : tie.Need-returns-4
@@ -99,7 +99,7 @@ unfolding operator_of Arms.project
 returns-4 c =
     let a = (start_of c.before.before.before).args in
     let m = c.before.before.word2 in
-    of-mark a.plan.now a.at c.project.result m.result mark_rp
+    of_mark a.plan.now a.at c.project.result m.result mark_rp
     m.ensures.0 c.before.match.keys3 c.project.ensures
 
 returns-5 : tie.Need-returns-5
@@ -107,7 +107,7 @@ unfolding operator_of Arms.union
 returns-5 c =
     let a = (start_of c.before.before.before).args in
     let m = c.before.before.word2 in
-    of-mark a.plan.now a.at c.union.result m.result mark_ru
+    of_mark a.plan.now a.at c.union.result m.result mark_ru
     m.ensures.0 c.before.match.keys4 c.union.ensures
 
 returns-6 : tie.Need-returns-6
@@ -115,7 +115,7 @@ unfolding operator_of Arms.minus
 returns-6 c =
     let a = (start_of c.before.before.before).args in
     let m = c.before.before.word2 in
-    of-mark a.plan.now a.at c.minus.result m.result mark_rd
+    of_mark a.plan.now a.at c.minus.result m.result mark_rd
     m.ensures.0 c.before.match.keys5 c.minus.ensures
 
 returns-7 : tie.Need-returns-7
@@ -123,7 +123,7 @@ unfolding operator_of Arms.select
 returns-7 c =
     let a = (start_of c.before.before.before).args in
     let m = c.before.before.word2 in
-    of-mark a.plan.now a.at c.select.result m.result mark_rs
+    of_mark a.plan.now a.at c.select.result m.result mark_rs
     m.ensures.0 c.before.match.keys6 c.select.ensures
 
 returns-8 : tie.Need-returns-8
@@ -131,7 +131,7 @@ unfolding operator_of Arms.join
 returns-8 c =
     let a = (start_of c.before.before.before).args in
     let m = c.before.before.word2 in
-    of-mark a.plan.now a.at c.join.result m.result mark_rj
+    of_mark a.plan.now a.at c.join.result m.result mark_rj
     m.ensures.0 c.before.match.keys7 c.join.ensures
 
 returns-9 : tie.Need-returns-9
@@ -139,7 +139,7 @@ unfolding operator_of Arms.number
 returns-9 c =
     let a = (start_of c.before.before.before).args in
     let m = c.before.before.word2 in
-    of-mark a.plan.now a.at c.number.result m.result mark_rn
+    of_mark a.plan.now a.at c.number.result m.result mark_rn
     m.ensures.0 c.before.match.keys8 c.number.ensures
 
 returns-10 : tie.Need-returns-10
@@ -147,7 +147,7 @@ unfolding operator_of Arms.function
 returns-10 c =
     let a = (start_of c.before.before.before).args in
     let m = c.before.before.word2 in
-    of-mark a.plan.now a.at c.function.result m.result mark_rf
+    of_mark a.plan.now a.at c.function.result m.result mark_rf
     m.ensures.0 c.before.match.keys9 c.function.ensures
 
 returns-11 : tie.Need-returns-11
@@ -155,7 +155,7 @@ unfolding operator_of Arms.counts
 returns-11 c =
     let a = (start_of c.before.before.before).args in
     let m = c.before.before.word2 in
-    of-mark a.plan.now a.at c.counts.result m.result mark_rc
+    of_mark a.plan.now a.at c.counts.result m.result mark_rc
     m.ensures.0 c.before.match.keys10 c.counts.ensures
 
 returns-12 : tie.Need-returns-12
@@ -163,7 +163,7 @@ unfolding operator_of Arms.truths
 returns-12 c =
     let a = (start_of c.before.before.before).args in
     let m = c.before.before.word2 in
-    of-mark a.plan.now a.at c.truths.result m.result mark_re
+    of_mark a.plan.now a.at c.truths.result m.result mark_re
     m.ensures.0 c.before.match.keys11 c.truths.ensures
 
 returns-13 : tie.Need-returns-13
@@ -171,7 +171,7 @@ unfolding operator_of Arms.once
 returns-13 c =
     let a = (start_of c.before.before.before).args in
     let m = c.before.before.word2 in
-    of-mark a.plan.now a.at c.once.result m.result mark_rk
+    of_mark a.plan.now a.at c.once.result m.result mark_rk
     m.ensures.0 c.before.match.keys12 c.once.ensures
 
 returns-14 : tie.Need-returns-14
@@ -179,7 +179,7 @@ unfolding operator_of Arms.step
 returns-14 c =
     let a = (start_of c.before.before.before).args in
     let m = c.before.before.word2 in
-    of-mark a.plan.now a.at c.step.result m.result mark_rx
+    of_mark a.plan.now a.at c.step.result m.result mark_rx
     m.ensures.0 c.before.match.keys13 c.step.ensures
 
 returns-15 : tie.Need-returns-15
@@ -187,7 +187,7 @@ unfolding operator_of Arms.root
 returns-15 c =
     let a = (start_of c.before.before.before).args in
     let m = c.before.before.word2 in
-    of-mark a.plan.now a.at c.root.result m.result mark_ro
+    of_mark a.plan.now a.at c.root.result m.result mark_ro
     m.ensures.0 c.before.match.keys14 c.root.ensures
 
 returns-16 : tie.Need-returns-16
@@ -200,7 +200,7 @@ returns-17 : tie.Need-returns-17
 returns-17 c =
     let a = c.before.before.before.before.before.args in
     let m = c.before.word2 in
-    mark-none a.plan.now a.at m.result m.ensures.0 c.match.rest.0
+    mark_none a.plan.now a.at m.result m.ensures.0 c.match.rest.0
 
 pub read_spec : {M : Type 1} → statement M
 read_spec =

@@ -2,7 +2,7 @@
 use borrow.Author.Rules.{rules}
 use Rattle.plan_records.specs.Decoded.{operator_of}
 use Rattle.plan_widths.specs.Widths.{suitable}
-use Rattle.plan_widths.proofs.Suiting.{stands_project, stands_number, suits-project, suits-number}
+use Rattle.plan_widths.proofs.Suiting.{stands_project, stands_number, suits_project, suits_number}
 use Rattle.plan_widths.proofs.suits.Statement.{statement}
 use Rattle.plan_widths.proofs.suits.Tie as tie
 
@@ -98,7 +98,7 @@ returns-3 : tie.Need-returns-3
 returns-3 c =
     let a = start_of c.before.before.before.before in
     let g = c.before.before.operator.given in
-    suits-project a.args.plan.now a.args.operator a.pre.0 a.args.w a.args.v
+    suits_project a.args.plan.now a.args.operator a.pre.0 a.args.w a.args.v
     g.0.0 g.0.1.0 g.0.1.1.0 g.1 c.below.result c.below.ensures
 
 returns-4 : tie.Need-returns-4
@@ -121,7 +121,7 @@ returns-8 : tie.Need-returns-8
 returns-8 c =
     let a = start_of c.before.before.before.before in
     let g = c.before.before.operator4.given in
-    suits-number a.args.plan.now a.args.operator a.pre.0 a.args.w a.args.v
+    suits_number a.args.plan.now a.args.operator a.pre.0 a.args.w a.args.v
     g.0.0 g.0.1.0 g.0.1.1.0 g.0.1.1.1.0 g.1 c.below2.result c.below2.ensures
 
 returns-9 : tie.Need-returns-9

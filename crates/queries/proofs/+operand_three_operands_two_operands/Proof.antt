@@ -9,7 +9,7 @@ use Rattle.query_records.specs.declared.Operands.{Operands}
 use Rattle.query_records.specs.declared.Operands.TheVariants.{None, Variable, One, Two, Binding, Three}
 use Rattle.queries.specs.Answers.{walked}
 use Rattle.queries.specs.Walk.{walk, steps, two, three}
-use Rattle.queries.proofs.Walking.{walk_unsound, walk_deep, walk_many, walk-sound, walk_stopped, walk_passed}
+use Rattle.queries.proofs.Walking.{walk_unsound, walk_deep, walk_many, walk_sound, walk_stopped, walk_passed}
 use Rattle.queries.proofs.operand.Reads as operand
 use Rattle.queries.proofs.operand.Kinds as operand-kinds
 use Rattle.queries.proofs.+operand_three_operands_two_operands.Lts-operand as operand-lts
@@ -210,7 +210,7 @@ following-steps t c p e =
     let found = c.before.before.before.before in
     let r = found.before.before.read in
     let f = found.found.given in
-    walk-sound a.query.now a.at r.result r.ensures.means a.depth a.flags a.n f.0.0 f.1
+    walk_sound a.query.now a.at r.result r.ensures.means a.depth a.flags a.n f.0.0 f.1
     c.following.result p c.before.before.if1.false (omega arith) c.following.ensures e
 
 operand-returns-4 : (t : ℕ) → operand-lts.Need-returns-4 (operand-callees t) (operand_at t) operand.Post

@@ -8,7 +8,7 @@ use Prim.Native.Nat.{◌+◌, ◌≤◌}
 use lib.ListN.{length}
 use Rattle.query_records.specs.Arms.{apply_record}
 use Rattle.cells.proofs.Cut.{fits_cut, fits_room, fits_there}
-use Rattle.query_records.proofs.Arms.{means_cut, apply_none, apply-means}
+use Rattle.query_records.proofs.Arms.{means_cut, apply_none, apply_means}
 use Rattle.query_records.proofs.apply_record.Statement.{statement}
 use Rattle.query_records.proofs.apply_record.Tie as tie
 
@@ -71,7 +71,7 @@ returns-3 c =
     let e = known.before.before.before.before in
     let a = e.before.before.before.args in
     let f = known.f.given in
-    apply-means a.query.now a.at (there e) x.result x.ensures f.0.0 c.sound.result f.1
+    apply_means a.query.now a.at (there e) x.result x.ensures f.0.0 c.sound.result f.1
     c.sound.ensures
 
 pub apply-record-spec : {M : Type 1} → statement M

@@ -14,7 +14,7 @@ use Rattle.query_records.specs.declared.Record.TheVariants as Record
 use Rattle.query_records.specs.Arms.{boolean_record}
 use Rattle.query_records.specs.Decoded.{record_of}
 use Rattle.cells.proofs.Cut.{fits_cut, fits_room, fits_there}
-use Rattle.query_records.proofs.Arms.{means_cut, means_fails, means-sized}
+use Rattle.query_records.proofs.Arms.{means_cut, means_fails, means_sized}
 use Rattle.query_records.proofs.Arms.{boolean_none}
 use Rattle.query_records.proofs.boolean_record.Statement.{statement}
 use Rattle.query_records.proofs.boolean_record.Tie as tie
@@ -66,7 +66,7 @@ returns-2 : tie.Need-returns-2
 unfolding boolean_record boolean_of attempt record_of cell_of
 returns-2 c =
     let a = (start_of c.before.before.before).args in
-    means-sized a.query.now a.at 3 _ c.sound.result (Record.Literal (Item.Truth false))
+    means_sized a.query.now a.at 3 _ c.sound.result (Record.Literal (Item.Truth false))
     c.sound.ensures (there c.before.before.before) tt
     (rw c.before.match.keys1)
 
@@ -74,7 +74,7 @@ returns-3 : tie.Need-returns-3
 unfolding boolean_record boolean_of attempt record_of cell_of
 returns-3 c =
     let a = (start_of c.before.before.before).args in
-    means-sized a.query.now a.at 3 _ c.sound2.result (Record.Literal (Item.Truth true))
+    means_sized a.query.now a.at 3 _ c.sound2.result (Record.Literal (Item.Truth true))
     c.sound2.ensures (there c.before.before.before) tt
     (rw c.before.match.keys2)
 

@@ -5,7 +5,7 @@ use borrow.Author.Rules.{rules}
 use Rattle.meaning.specs.Query as Query
 use Rattle.query_records.specs.declared.Record.TheVariants as Record
 use Rattle.query_records.specs.Decoded.{record_of}
-use Rattle.query_records.proofs.Arms.{variable_room, variable_fails, variable-means}
+use Rattle.query_records.proofs.Arms.{variable_room, variable_fails, variable_means}
 use Rattle.query_records.proofs.for_record.Statement.{statement}
 use Rattle.query_records.proofs.for_record.Tie as tie
 
@@ -40,7 +40,7 @@ returns-2 c =
     let a = c.before.before.before.before.before.before.args in
     let x = c.before.before.before.before.variable in
     let v = c.before.before.v.given in
-    variable-means a.query.now a.at Query.for x.result x.ensures
+    variable_means a.query.now a.at Query.for x.result x.ensures
     c.sound.result (Record.For v.0.0) v.0.0 c.sound.ensures v.1 tt refl
 
 pub for-record-spec : {M : Type 1} → statement M

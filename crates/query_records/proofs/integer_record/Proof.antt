@@ -19,7 +19,7 @@ use Rattle.query_records.specs.declared.Record.TheVariants as Record
 use Rattle.query_records.specs.Arms.{integer_record}
 use Rattle.query_records.specs.Decoded.{record_of}
 use Rattle.cells.proofs.Cut.{fits_cut, fits_room, fits_there}
-use Rattle.query_records.proofs.Arms.{means_cut, means-sized}
+use Rattle.query_records.proofs.Arms.{means_cut, means_sized}
 use Rattle.query_records.proofs.integer_record.Statement.{statement}
 use Rattle.query_records.proofs.integer_record.Tie as tie
 
@@ -64,7 +64,7 @@ unfolding integer_record record_of cell_of
 returns-2 c =
     let a = c.before.before.before.before.before.args in
     let z = c.before.int4 in
-    means-sized a.query.now a.at 6 _ c.sound.result
+    means_sized a.query.now a.at 6 _ c.sound.result
     (Record.Literal (Item.Integer (to_z w32 (of_z w32 z.result))))
     c.sound.ensures (there c.before.before) tt
     (ap (λ (i : ℤ). gives (literal i)) (sym z.ensures ∙ sym (to_z-of_z w32 z.result (record { sfits = z.type-inv }))))

@@ -12,7 +12,7 @@ use Rattle.query_records.specs.Arms.{variable_record, integer_record, boolean_re
 use Rattle.query_records.specs.Arms.{step_record}
 use Rattle.query_records.specs.Decoded.{record_of}
 use Rattle.cells.proofs.Cut.{fits_cut, fits_room, fits_there}
-use Rattle.query_records.proofs.Arms.{means-sized, means-mark, means_none}
+use Rattle.query_records.proofs.Arms.{means_sized, means_mark, means_none}
 use Rattle.query_records.proofs.Arms.{record-cut, record-gap, record-none}
 use Rattle.query_records.proofs.read.Statement.{statement}
 use Rattle.query_records.proofs.read.Tie as tie
@@ -96,7 +96,7 @@ unfolding Query.record_of integer_record
 returns-2 c =
     let a = (start_of c.before.before.before).args in
     let m = c.before.before.word2 in
-    means-mark a.query.now a.at c.integer-record.result m.result 0x514C
+    means_mark a.query.now a.at c.integer-record.result m.result 0x514C
     m.ensures.0 c.before.match.keys1
     c.integer-record.ensures
 
@@ -105,7 +105,7 @@ unfolding Query.record_of boolean_record
 returns-3 c =
     let a = (start_of c.before.before.before).args in
     let m = c.before.before.word2 in
-    means-mark a.query.now a.at c.boolean-record.result m.result 0x5142
+    means_mark a.query.now a.at c.boolean-record.result m.result 0x5142
     m.ensures.0 c.before.match.keys2
     c.boolean-record.ensures
 
@@ -114,8 +114,8 @@ unfolding Query.record_of record_of
 returns-4 c =
     let a = (start_of c.before.before.before).args in
     let m = c.before.before.word2 in
-    means-mark a.query.now a.at c.sound.result m.result 0x5145 m.ensures.0 c.before.match.keys3
-    (means-sized a.query.now a.at 2 _ c.sound.result Record.Empty
+    means_mark a.query.now a.at c.sound.result m.result 0x5145 m.ensures.0 c.before.match.keys3
+    (means_sized a.query.now a.at 2 _ c.sound.result Record.Empty
     c.sound.ensures (there c.before.before.before) tt refl)
 
 returns-5 : tie.Need-returns-5
@@ -123,7 +123,7 @@ unfolding Query.record_of root_record
 returns-5 c =
     let a = (start_of c.before.before.before).args in
     let m = c.before.before.word2 in
-    means-mark a.query.now a.at c.root-record.result m.result 0x5152
+    means_mark a.query.now a.at c.root-record.result m.result 0x5152
     m.ensures.0 c.before.match.keys4
     c.root-record.ensures
 
@@ -132,7 +132,7 @@ unfolding Query.record_of variable_record
 returns-6 c =
     let a = (start_of c.before.before.before).args in
     let m = c.before.before.word2 in
-    means-mark a.query.now a.at c.variable_record_lem.result m.result 0x5156
+    means_mark a.query.now a.at c.variable_record_lem.result m.result 0x5156
     m.ensures.0 c.before.match.keys5
     c.variable_record_lem.ensures
 
@@ -141,8 +141,8 @@ unfolding Query.record_of record_of
 returns-7 c =
     let a = (start_of c.before.before.before).args in
     let m = c.before.before.word2 in
-    means-mark a.query.now a.at c.sound2.result m.result 0x5153 m.ensures.0 c.before.match.keys6
-    (means-sized a.query.now a.at 2 _ c.sound2.result Record.Sequence
+    means_mark a.query.now a.at c.sound2.result m.result 0x5153 m.ensures.0 c.before.match.keys6
+    (means_sized a.query.now a.at 2 _ c.sound2.result Record.Sequence
     c.sound2.ensures (there c.before.before.before) tt refl)
 
 returns-8 : tie.Need-returns-8
@@ -150,7 +150,7 @@ unfolding Query.record_of variable_record
 returns-8 c =
     let a = (start_of c.before.before.before).args in
     let m = c.before.before.word2 in
-    means-mark a.query.now a.at c.let-record.result m.result 0x5154
+    means_mark a.query.now a.at c.let-record.result m.result 0x5154
     m.ensures.0 c.before.match.keys7
     c.let-record.ensures
 
@@ -159,7 +159,7 @@ unfolding Query.record_of variable_record
 returns-9 c =
     let a = (start_of c.before.before.before).args in
     let m = c.before.before.word2 in
-    means-mark a.query.now a.at c.for-record.result m.result 0x5146
+    means_mark a.query.now a.at c.for-record.result m.result 0x5146
     m.ensures.0 c.before.match.keys8
     c.for-record.ensures
 
@@ -168,8 +168,8 @@ unfolding Query.record_of record_of
 returns-10 c =
     let a = (start_of c.before.before.before).args in
     let m = c.before.before.word2 in
-    means-mark a.query.now a.at c.sound3.result m.result 0x5149 m.ensures.0 c.before.match.keys9
-    (means-sized a.query.now a.at 2 _ c.sound3.result Record.If
+    means_mark a.query.now a.at c.sound3.result m.result 0x5149 m.ensures.0 c.before.match.keys9
+    (means_sized a.query.now a.at 2 _ c.sound3.result Record.If
     c.sound3.ensures (there c.before.before.before) tt refl)
 
 returns-11 : tie.Need-returns-11
@@ -177,7 +177,7 @@ unfolding Query.record_of apply_record
 returns-11 c =
     let a = (start_of c.before.before.before).args in
     let m = c.before.before.word2 in
-    means-mark a.query.now a.at c.apply-record.result m.result 0x514F
+    means_mark a.query.now a.at c.apply-record.result m.result 0x514F
     m.ensures.0 c.before.match.keys10
     c.apply-record.ensures
 
@@ -186,8 +186,8 @@ unfolding Query.record_of record_of
 returns-12 c =
     let a = (start_of c.before.before.before).args in
     let m = c.before.before.word2 in
-    means-mark a.query.now a.at c.sound4.result m.result 0x5143 m.ensures.0 c.before.match.keys11
-    (means-sized a.query.now a.at 2 _ c.sound4.result Record.Count
+    means_mark a.query.now a.at c.sound4.result m.result 0x5143 m.ensures.0 c.before.match.keys11
+    (means_sized a.query.now a.at 2 _ c.sound4.result Record.Count
     c.sound4.ensures (there c.before.before.before) tt refl)
 
 returns-13 : tie.Need-returns-13
@@ -195,8 +195,8 @@ unfolding Query.record_of record_of
 returns-13 c =
     let a = (start_of c.before.before.before).args in
     let m = c.before.before.word2 in
-    means-mark a.query.now a.at c.sound5.result m.result 0x5144 m.ensures.0 c.before.match.keys12
-    (means-sized a.query.now a.at 2 _ c.sound5.result Record.Data
+    means_mark a.query.now a.at c.sound5.result m.result 0x5144 m.ensures.0 c.before.match.keys12
+    (means_sized a.query.now a.at 2 _ c.sound5.result Record.Data
     c.sound5.ensures (there c.before.before.before) tt refl)
 
 returns-14 : tie.Need-returns-14
@@ -204,7 +204,7 @@ unfolding Query.record_of step_record
 returns-14 c =
     let a = (start_of c.before.before.before).args in
     let m = c.before.before.word2 in
-    means-mark a.query.now a.at c.step-record.result m.result 0x5158
+    means_mark a.query.now a.at c.step-record.result m.result 0x5158
     m.ensures.0 c.before.match.keys13
     c.step-record.ensures
 

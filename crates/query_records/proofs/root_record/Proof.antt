@@ -12,7 +12,7 @@ use Rattle.query_records.specs.declared.Record.TheVariants as Record
 use Rattle.query_records.specs.Arms.{root_record}
 use Rattle.query_records.specs.Decoded.{record_of}
 use Rattle.cells.proofs.Cut.{fits_cut, fits_room, fits_there}
-use Rattle.query_records.proofs.Arms.{means_cut, means_fails, means-sized}
+use Rattle.query_records.proofs.Arms.{means_cut, means_fails, means_sized}
 use Rattle.query_records.proofs.Arms.{fragment_is}
 use Rattle.query_records.proofs.root_record.Statement.{statement}
 use Rattle.query_records.proofs.root_record.Tie as tie
@@ -67,7 +67,7 @@ unfolding root_record attempt record_of
 returns-3 c =
     let a = c.before.before.before.before.before.before.args in
     let b = byte_at a.query.now (a.at + 2) in
-    means-sized a.query.now a.at 3 _ c.sound.result (Record.Root b) c.sound.ensures
+    means_sized a.query.now a.at 3 _ c.sound.result (Record.Root b) c.sound.ensures
     (there c.before.before.before) tt
     (rw (fragment_is b c.before.match.rest (c.before.before.shared-slice-known2.given (a.at + 2))))
 

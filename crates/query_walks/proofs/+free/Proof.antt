@@ -11,8 +11,8 @@ use Rattle.query_records.specs.declared.Operands.{Operands}
 use Rattle.query_records.specs.declared.Operands.TheVariants.{None, Variable, One, Two, Binding, Three}
 use Rattle.query_walks.specs.Parse.{parse}
 use Rattle.query_walks.specs.Statements.{Spans}
-use Rattle.query_walks.proofs.Skipping.{parse_deep, parse_unsound, parse-sound}
-use Rattle.query_walks.proofs.Skipping.{free_none, free_variable, free_one, free-two, free-binding, free-three}
+use Rattle.query_walks.proofs.Skipping.{parse_deep, parse_unsound, parse_sound}
+use Rattle.query_walks.proofs.Skipping.{free_none, free_variable, free_one, free_two, free_binding, free_three}
 use Rattle.query_walks.proofs.free.Reads as free
 use Rattle.query_walks.proofs.free.Kinds as free-kinds
 use Rattle.query_walks.proofs.+free.Lts-free as free-lts
@@ -179,7 +179,7 @@ operands t c p e =
     let a = (start t c).args in
     let r = c.before.before.before.before.read in
     let f = c.before.before.found.given in
-    parse-sound a.query.now a.at r.result r.ensures a.depth f.0.0 c.following.result p f.1
+    parse_sound a.query.now a.at r.result r.ensures a.depth f.0.0 c.following.result p f.1
     c.before.before.before.before.before.if1.false c.following.ensures e
 
 free-returns-3 : (t : ℕ) → free-lts.Need-returns-3 (callees t) (free-at t) free.Post
@@ -201,7 +201,7 @@ free-returns-6 t c = λ x p.
     let k = c.before.before.before.before in
     let a = c.before.before.before.free2 in
     let b = c.before.free3 in
-    free-two _ _ _ _ _ a.result b.result c.either.result c.before.before.skip.ensures
+    free_two _ _ _ _ _ a.result b.result c.either.result c.before.before.skip.ensures
     a.ensures b.ensures c.either.ensures (operands t k.before.before Two k.enum-told4.given.1 x p)
 
 free-returns-7 : (t : ℕ) → free-lts.Need-returns-7 (callees t) (free-at t) free.Post
@@ -211,7 +211,7 @@ free-returns-7 t c = λ x p.
     let v = k.v2.given in
     let a = c.before.before.free5 in
     let b = b-free.free4 in
-    free-binding _ _ _ _ v.0.0 _ a.result b.result c.either2.result
+    free_binding _ _ _ _ v.0.0 _ a.result b.result c.either2.result
     b-free.before.skip2.ensures a.ensures b.ensures
     (rw c.before.with2.ensures at c.either2.ensures)
     (operands t k.before.before (Binding v.0.0) v.1 x p)
@@ -224,7 +224,7 @@ free-returns-8 t c = λ x p.
     let a = c.before.before.before.free7 in
     let b = c.before.free8 in
     let m = c.before.before.either3 in
-    free-three _ _ _ _ _ _ q.result a.result b.result m.result c.either4.result
+    free_three _ _ _ _ _ _ q.result a.result b.result m.result c.either4.result
     skipped.before.skip3.ensures
     skipped.skip4.ensures
     q.ensures a.ensures b.ensures m.ensures c.either4.ensures

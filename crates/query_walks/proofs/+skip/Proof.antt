@@ -11,7 +11,7 @@ use Rattle.query_records.specs.declared.Operands.{Operands}
 use Rattle.query_records.specs.declared.Operands.TheVariants.{None, Variable, One, Two, Binding, Three}
 use Rattle.query_walks.specs.Parse.{parse}
 use Rattle.query_walks.specs.Statements.{Spans}
-use Rattle.query_walks.proofs.Skipping.{parse_deep, parse_unsound, parse-sound, past_one, past_two, past_binding}
+use Rattle.query_walks.proofs.Skipping.{parse_deep, parse_unsound, parse_sound, past_one, past_two, past_binding}
 use Rattle.query_walks.proofs.Skipping.{past_three}
 use Rattle.query_walks.proofs.skip.Reads as skip
 use Rattle.query_walks.proofs.skip.Kinds as skip-kinds
@@ -133,7 +133,7 @@ operands t c p e =
     let a = (start t c).args in
     let r = c.before.before.before.before.read in
     let f = c.before.before.found.given in
-    parse-sound a.query.now a.at r.result r.ensures a.depth f.0.0 c.following.result p f.1
+    parse_sound a.query.now a.at r.result r.ensures a.depth f.0.0 c.following.result p f.1
     c.before.before.before.before.before.if1.false c.following.ensures e
 
 skip-returns-3 : (t : ℕ) → skip-lts.Need-returns-3 (callees t) (skip_at t) skip.Post

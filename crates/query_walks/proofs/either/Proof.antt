@@ -4,7 +4,7 @@ use mathlib.Core.Path.{◌≡◌, refl, ◌∙◌}
 use mathlib.Core.Bool.{false, ◌||◌}
 use native.Mathlib.Omega.{arith}
 use lib.ListN.{length, get_or, length-set}
-use Rattle.query_walks.proofs.Skipping.{flags-more}
+use Rattle.query_walks.proofs.Skipping.{flags_more}
 use Rattle.query_walks.proofs.either.Statement.{statement}
 use Rattle.query_walks.proofs.either.Tie as tie
 
@@ -40,7 +40,7 @@ loop-again c =
     let flag = get_or a.t1 l.v false || get_or a.t2 l.v false in (
       omega arith,
       length-set l.row l.v flag ∙ l.invariant.1,
-      flags-more (λ u. get_or a.t1 u false || get_or a.t2 u false) l.row l.v flag (omega arith)
+      flags_more (λ u. get_or a.t1 u false || get_or a.t2 u false) l.row l.v flag (omega arith)
           l.invariant.2 refl,
     )
 

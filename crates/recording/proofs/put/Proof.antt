@@ -5,7 +5,7 @@ use native.Mathlib.Omega.{arith}
 use lib.ListN.{length, length-set}
 use Rattle.recording.specs.Recorded.{most_bytes}
 use Rattle.recording.specs.Moves.{Puts}
-use Rattle.recording.proofs.Moving.{puts_none, puts-more}
+use Rattle.recording.proofs.Moving.{puts_none, puts_more}
 use borrow.Author.Rules.{rules}
 use Rattle.recording.proofs.put.Statement.{statement}
 use Rattle.recording.proofs.put.Tie as tie
@@ -44,7 +44,7 @@ loop-less c = search rules
 loop-again : tie.Need-loop-preserved invariant-loop decreases-loop
 loop-again c =
     let inv = c.before.before.loop.invariant in
-    (omega arith, simp length-set inv.1, puts-more _ _ _ _ _ (search rules) inv.2)
+    (omega arith, simp length-set inv.1, puts_more _ _ _ _ _ (search rules) inv.2)
 
 same_length : tie.Need-same-length invariant-loop decreases-loop
 same_length c = search rules

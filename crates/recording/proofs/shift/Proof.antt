@@ -5,7 +5,7 @@ use native.Mathlib.Omega.{arith}
 use lib.ListN.{length, length-set}
 use Rattle.recording.specs.Recorded.{most_bytes}
 use Rattle.recording.specs.Moves.{Shifts}
-use Rattle.recording.proofs.Moving.{shifts_none, shifts-more, shifts-all}
+use Rattle.recording.proofs.Moving.{shifts_none, shifts_more, shifts_all}
 use borrow.Author.Rules.{rules}
 use Rattle.recording.proofs.shift.Statement.{statement}
 use Rattle.recording.proofs.shift.Tie as tie
@@ -46,7 +46,7 @@ loop-again c =
     let inv = c.before.before.loop.invariant in (
       omega arith,
       simp length-set inv.1,
-      shifts-more _ _ _ _ _ _ _ (omega arith) (omega arith) (search rules) inv.2,
+      shifts_more _ _ _ _ _ _ _ (omega arith) (omega arith) (search rules) inv.2,
     )
 
 same_length : tie.Need-same-length invariant-loop decreases-loop
@@ -56,7 +56,7 @@ returns : tie.Need-returns invariant-loop decreases-loop
 returns c =
     let a = c.before.before.before.before in
     let e : c.before.before.least.result ≡ min a.args.made (most_bytes - a.args.by) = omega arith in
-    rw e at (shifts-all _ _ _ _ _ _ (omega arith) c.before.loop.invariant.2)
+    rw e at (shifts_all _ _ _ _ _ _ (omega arith) c.before.loop.invariant.2)
 
 pub shift-spec : {M : Type 1} → statement M
 shift-spec =

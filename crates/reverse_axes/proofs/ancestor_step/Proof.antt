@@ -7,7 +7,7 @@ use native.Mathlib.Omega.{arith}
 use Rattle.codes.specs.declared.Axis.TheVariants.{Ancestor}
 use Rattle.meaning.specs.Catalogue.{catalogue_of}
 use Rattle.step_parts.specs.Steps.{AxisPart}
-use Rattle.step_parts.proofs.Marking.{part_none, part-down}
+use Rattle.step_parts.proofs.Marking.{part_none, part_down}
 use Rattle.reverse_axes.proofs.Ancestor.{Next, next_begin, next_more, next_flag}
 use Rattle.reverse_axes.proofs.ancestor_step.Statement.{statement}
 use Rattle.reverse_axes.proofs.ancestor_step.Tie as tie
@@ -67,7 +67,7 @@ loop-again c =
       omega arith,
       rw c.pick.ensures
           (next_more cat args.rows nested from loop.left v loop.next.0 here there loop.invariant.1),
-      part-down args.doc.now args.rows Ancestor args.test from args.to.now loop.to v _ _
+      part_down args.doc.now args.rows Ancestor args.test from args.to.now loop.to v _ _
           (omega arith)
           (takes.takes.ensures args.rows)
           (ap (λ e. leb loop.next.0 e) end.end_of_lem.ensures.0

@@ -8,8 +8,8 @@ use native.Mathlib.Omega.{arith}
 use Rattle.codes.specs.declared.Axis.TheVariants.{Parent}
 use Rattle.meaning.specs.Catalogue.{catalogue_of}
 use Rattle.step_parts.specs.Steps.{AxisPart}
-use Rattle.step_parts.proofs.Marking.{part_none, part-down}
-use Rattle.reverse_axes.proofs.Parent.{Waits, waits_begin, waits-more, waits_flag}
+use Rattle.step_parts.proofs.Marking.{part_none, part_down}
+use Rattle.reverse_axes.proofs.Parent.{Waits, waits_begin, waits_more, waits_flag}
 use Rattle.reverse_axes.proofs.parent_step.Statement.{statement}
 use Rattle.reverse_axes.proofs.parent_step.Tie as tie
 
@@ -82,8 +82,8 @@ loop-again c =
     let there : v < args.rows = omega arith in (
       omega arith,
       rw level.level-of.ensures.0
-          (waits-more cat args.rows nested from loop.left v here there loop.waits loop.invariant.1),
-      part-down args.doc.now args.rows Parent args.test from args.to.now loop.to v _ _
+          (waits_more cat args.rows nested from loop.left v here there loop.waits loop.invariant.1),
+      part_down args.doc.now args.rows Parent args.test from args.to.now loop.to v _ _
           (omega arith)
           (takes.takes.ensures args.rows)
           (ap (λ l. get_or loop.waits (l + 1) false) level.level-of.ensures.0

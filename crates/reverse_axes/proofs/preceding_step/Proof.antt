@@ -7,7 +7,7 @@ use native.Mathlib.Omega.{arith}
 use Rattle.codes.specs.declared.Axis.TheVariants.{Preceding}
 use Rattle.meaning.specs.Catalogue.{catalogue_of}
 use Rattle.step_parts.specs.Steps.{AxisPart}
-use Rattle.step_parts.proofs.Marking.{part_none, part-down}
+use Rattle.step_parts.proofs.Marking.{part_none, part_down}
 use Rattle.reverse_axes.proofs.Preceding.{Last, last_begin, last_more, last_flag}
 use Rattle.reverse_axes.proofs.preceding_step.Statement.{statement}
 use Rattle.reverse_axes.proofs.preceding_step.Tie as tie
@@ -76,7 +76,7 @@ loop-again c =
       omega arith,
       rw (c.pick2.ensures, pick.pick.ensures, level.level-of.ensures.0)
           (last_more cat args.rows from loop.left v loop.last.0 here there loop.invariant.1),
-      part-down args.doc.now args.rows Preceding args.test from args.to.now loop.to v _ _
+      part_down args.doc.now args.rows Preceding args.test from args.to.now loop.to v _ _
           (omega (arith, start.requires.targets))
           (takes.takes.ensures args.rows)
           (ap (λ e. ltb e loop.last.0) end.end_of_lem.ensures.0

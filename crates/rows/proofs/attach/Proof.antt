@@ -3,7 +3,7 @@ use Prim.Native.Nat.{◌-◌}
 use native.Mathlib.Omega.{arith}
 use mir.Facts.{to_z-of_z}
 use borrow.Author.Rules.{rules}
-use Rattle.tables.proofs.Promise.{attached-full, attached-laid}
+use Rattle.tables.proofs.Promise.{attached_full, attached_laid}
 use Rattle.rows.proofs.attach.Statement.{statement}
 use Rattle.rows.proofs.attach.Tie as tie
 
@@ -11,7 +11,7 @@ sub-if1 : tie.Need-overflow-sub-if1
 sub-if1 c = search rules
 
 returns : tie.Need-returns
-returns c = attached-full _ _ _ _ _ _ (omega arith) (omega arith)
+returns c = attached_full _ _ _ _ _ _ (omega arith) (omega arith)
 
 copy-requires : tie.Need-copy-requires
 copy-requires c κs = search rules
@@ -30,7 +30,7 @@ same_length c = search rules
 
 returns-2 : tie.Need-returns-2
 returns-2 c =
-    attached-laid _ _ _ _ _ _ (omega arith) _ _ (omega arith) (omega arith) c.before.copy.ensures
+    attached_laid _ _ _ _ _ _ (omega arith) _ _ (omega arith) (omega arith) c.before.copy.ensures
     (to_z-of_z c.before.before.before.before.ranges.cell)
 
 pub attach_spec : {M : Type 1} → statement M

@@ -10,7 +10,7 @@ use Rattle.laws.specs.Rows.{row, laid}
 use Rattle.laws.proofs.Rows.{laid_nothing}
 use Rattle.meaning.specs.Operators.{cell}
 use Rattle.meaning.specs.Plan.{columns_at}
-use Rattle.rows.proofs.Columns.{column-below, projected_none, projected-more, projected-full, projected-laid}
+use Rattle.rows.proofs.Columns.{column_below, projected_none, projected_more, projected_full, projected_laid}
 use borrow.Author.Rules.{rules}
 use Rattle.rows.proofs.project.Statement.{statement}
 use Rattle.rows.proofs.project.Tie as tie
@@ -28,7 +28,7 @@ sub-if1 : tie.Need-overflow-sub-if1 invariant-loop decreases-loop
 sub-if1 c = search rules
 
 returns : tie.Need-returns invariant-loop decreases-loop
-returns c = projected-full _ _ _ _ _ _ _ _ (omega arith) (omega arith)
+returns c = projected_full _ _ _ _ _ _ _ _ (omega arith) (omega arith)
 
 loop-holds : tie.Need-loop-init invariant-loop decreases-loop
 loop-holds c = (omega arith, rw projected_none (sym (laid_nothing _ _)), refl)
@@ -51,7 +51,7 @@ below :
     (c : tie.After-wide invariant-loop decreases-loop)
     → c.wide.result < (start_of c).args.w
 below c =
-    column-below _ _ _ _ _ _ (omega arith) (start_of c).requires.1.1
+    column_below _ _ _ _ _ _ (omega arith) (start_of c).requires.1.1
     (omega arith) c.wide.ensures
 
 add-work : tie.Need-overflow-add-work invariant-loop decreases-loop
@@ -82,7 +82,7 @@ loop-again : tie.Need-loop-preserved invariant-loop decreases-loop
 loop-again c =
     let at = c.before.before.before.before in (
       omega arith,
-      projected-more _ _ _ _ _ _ _ _ _ _ at.loop.invariant.1 (omega arith) (omega arith) (omega arith)
+      projected_more _ _ _ _ _ _ _ _ _ _ at.loop.invariant.1 (omega arith) (omega arith) (omega arith)
           c.before.wide.ensures (below c.before) (to_z-of_z (record { sfits = c.work.given })),
       simp length-set at.loop.invariant.2,
     )
@@ -91,7 +91,7 @@ same_length : tie.Need-same-length invariant-loop decreases-loop
 same_length c = c.before.loop.invariant.2
 
 returns-2 : tie.Need-returns-2 invariant-loop decreases-loop
-returns-2 c = projected-laid _ _ _ _ _ _ _ _ (omega arith) _ _ (omega arith) (omega arith) c.before.loop.invariant.1
+returns-2 c = projected_laid _ _ _ _ _ _ _ _ (omega arith) _ _ (omega arith) (omega arith) c.before.loop.invariant.1
 
 pub project-spec : {M : Type 1} → statement M
 project-spec =

@@ -5,7 +5,7 @@ use mir.Facts.{to_z-of_z}
 use Rattle.cells.specs.Cell.{same, true_cell}
 use Rattle.laws.specs.Rows.{row}
 use Rattle.meaning.specs.Operators.{cell}
-use Rattle.tables.proofs.Promise.{owes_then, owes-else, none_laid}
+use Rattle.tables.proofs.Promise.{owes_then, owes_else, none_laid}
 use Rattle.rows.proofs.Columns.{column_test}
 use borrow.Author.Rules.{rules}
 use Rattle.rows.proofs.select.Statement.{statement}
@@ -43,7 +43,7 @@ returns c =
     owes_then _ _ _ _ _ _ _ _ _ (column at ∙ c.before.before.before.if1.true) c.before.repeat.ensures
 
 returns-2 : tie.Need-returns-2
-returns-2 c = owes-else _ _ _ _ _ _ _ _ _ (column c.before ∙ c.if1.false) (none_laid _ _ _ _ (omega arith))
+returns-2 c = owes_else _ _ _ _ _ _ _ _ _ (column c.before ∙ c.if1.false) (none_laid _ _ _ _ (omega arith))
 
 pub select-spec : {M : Type 1} → statement M
 select-spec =

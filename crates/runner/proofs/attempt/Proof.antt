@@ -1,6 +1,6 @@
 -- `runner::attempt` meets its contract: plan, then catalogue, then work.
 use mathlib.Core.Path.{refl}
-use Rattle.runner.proofs.Calling.{accepted, known_rows, bad-plan-leaves, bad-catalogue-leaves, run-leaves}
+use Rattle.runner.proofs.Calling.{accepted, known_rows, bad_plan_leaves, bad_catalogue_leaves, run_leaves}
 use borrow.Author.Rules.{rules}
 use Rattle.runner.proofs.attempt.Statement.{statement}
 use Rattle.runner.proofs.attempt.Tie as tie
@@ -18,7 +18,7 @@ bad-plan-requires : tie.Need-bad-plan-requires
 bad-plan-requires c κs = search rules
 
 returns : tie.Need-returns
-returns c = bad-plan-leaves _ _ c.before.before.before.check.ensures _ _ _ _ _ refl
+returns c = bad_plan_leaves _ _ c.before.before.before.check.ensures _ _ _ _ _ refl
     c.before.enum-told2.given.1 c.bad-plan.ensures
 
 check-requires-2 : tie.Need-check-requires-2
@@ -38,7 +38,7 @@ returns-2 c =
     let at-check2 = c.before.before.before in
     let at_told = at-check2.before in
     let at-check = at_told.before.before in
-    bad-catalogue-leaves _ _ at-check2.check2.ensures _ _ _ _ _
+    bad_catalogue_leaves _ _ at-check2.check2.ensures _ _ _ _ _
     (accepted _ _ at-check.check.ensures _ at_told.enum_told.given.1) refl c.before.enum-told3.given.1
     c.bad-catalogue.ensures
 
@@ -65,7 +65,7 @@ returns-3 c =
     let at-check2 = at-sound.before.before in
     let at_told = at-check2.before in
     let at-check = at_told.before.before in
-    run-leaves _ _ at-check2.check2.ensures _ at-sound.sound.given.1 _ _ _ _ _
+    run_leaves _ _ at-check2.check2.ensures _ at-sound.sound.given.1 _ _ _ _ _
     (accepted _ _ at-check.check.ensures _ at_told.enum_told.given.1) at-work-out.work-out.auto.1.1.1.0
     at-work-out.work-out.ensures c.concluded.ensures
 

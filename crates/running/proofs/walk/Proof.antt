@@ -10,8 +10,8 @@ use borrow.Author.Rules.{rules}
 use Rattle.cells.specs.Bytes.{Bytes}
 use Rattle.running.specs.Leaving.{operators_of}
 use Rattle.running.proofs.Going.{Going, going_start}
-use Rattle.running.proofs.Leaving.{never_unread, read_sound, under_512, turned-walks, turned_on, turned_counts}
-use Rattle.running.proofs.Leaving.{ready-kept, some, end-walks}
+use Rattle.running.proofs.Leaving.{never_unread, read_sound, under_512, turned_walks, turned_on, turned_counts}
+use Rattle.running.proofs.Leaving.{ready_kept, some, end_walks}
 use Rattle.running.proofs.walk.Statement.{statement}
 use Rattle.running.proofs.walk.Tie as tie
 
@@ -111,7 +111,7 @@ lay-requires c κs =
         (
           omega (arith, inv.2, start.pre.1.0),
           omega (arith, inv.3, start.pre.1.1),
-          ready-kept _ _ _ _ _ _ start.pre.1.2 inv.4 inv.5,
+          ready_kept _ _ _ _ _ _ start.pre.1.2 inv.4 inv.5,
         ),
       ),
     )
@@ -148,7 +148,7 @@ returns-2 c =
     let f = told.before.found.given in
     let t = r.before in
     let l = t.before in
-    turned-walks _ _ _ _ _ _ _ _ _ _ l.loop.inv.0 t.loop-test.taken _ r.read.ensures (bytes l) _
+    turned_walks _ _ _ _ _ _ _ _ _ _ l.loop.inv.0 t.loop-test.taken _ r.read.ensures (bytes l) _
     f.1 _ _ _ _
     c.before.match2.keys2 c.refused.ensures
     made.lay.ensures
@@ -239,7 +239,7 @@ returns-3 c =
     let l = c.before.before.before in
     let start = start_of l in
     rw c.stand.ensures
-    (end-walks _ _ _ _ _ _ _ _ _ _ l.loop.invariant.0 (omega (arith, c.before.before.loop-test.false))
+    (end_walks _ _ _ _ _ _ _ _ _ _ l.loop.invariant.0 (omega (arith, c.before.before.loop-test.false))
     start.pre.0.0 _
     (omega (
       arith,

@@ -3,7 +3,7 @@ use native.Mathlib.Omega.{arith}
 use mir.Syntax.{w32}
 use mir.Val.{SFits}
 use mir.Facts.{to_z-of_z}
-use Rattle.pen.proofs.Putting.{pens_none, pens-as}
+use Rattle.pen.proofs.Putting.{pens_none, pens_as}
 use Rattle.pen.proofs.Digits.{signed_end}
 use Rattle.shown_rows.proofs.Lining.{cell_stray, cell_integer, cell_truth, cell_node}
 use borrow.Author.Rules.{rules}
@@ -22,7 +22,7 @@ enum_told c = search rules
 returns : tie.Need-returns
 returns c =
     let item = c.before.before in (
-      pens-as
+      pens_as
           (cell_stray _ _ _ (to_z-of_z item.before.before.ranges.cell) item.item_of.ensures
           c.enum_told.given.1)
           (pens_none _ _),
@@ -60,7 +60,7 @@ returns-2 c =
     let case = line.before.before in
     let held = case.before.before.before.before in
     let item = held.before.before in (
-      pens-as
+      pens_as
           (cell_integer _ _ _ (to_z-of_z item.before.before.ranges.cell) item.item_of.ensures _
           held.held.given.1 _ _
           (to_z-of_z (narrow case)) case.before.item.given.1)
@@ -77,7 +77,7 @@ returns-3 c =
     let case = line.before.before in
     let held = case.before.before.before.before in
     let item = held.before.before in (
-      pens-as
+      pens_as
           (cell_truth _ _ _ (to_z-of_z item.before.before.ranges.cell) item.item_of.ensures _
           held.held.given.1 _
           case.before.item2.given.1)
@@ -94,7 +94,7 @@ returns-4 c =
     let case = line.before.before in
     let held = case.before.before.before.before in
     let item = held.before.before in (
-      pens-as
+      pens_as
           (cell_node _ _ _ (to_z-of_z item.before.before.ranges.cell) item.item_of.ensures _
           held.held.given.1 _
           case.before.item3.given.1)

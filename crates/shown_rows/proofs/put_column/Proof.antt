@@ -3,7 +3,7 @@ use Prim.Native.Nat.{◌-◌}
 use mathlib.Core.Path.{◌≡◌}
 use native.Mathlib.Omega.{arith}
 use mir.Facts.{to_z-of_z}
-use Rattle.pen.proofs.Putting.{pens-as}
+use Rattle.pen.proofs.Putting.{pens_as}
 use Rattle.shown_rows.proofs.Lining.{column_is, taken_short}
 use borrow.Author.Rules.{rules}
 use Rattle.shown_rows.proofs.put_column.Statement.{statement}
@@ -37,7 +37,7 @@ returns c =
     let start = cell.before.before.before in
     let n = cell.put-cell.result in
     let whole : n - 0 ≡ n = omega arith in (
-      pens-as
+      pens_as
           (column_is _ _ (n - 0) n _ _ cell.put-cell.ensures.1 cell.put-cell.ensures.0
           (to_z-of_z start.ranges.cell) whole)
           right.put_right.ensures.0,

@@ -1,6 +1,6 @@
 -- `put_node` meets its contract: the word, then the rank.
 use native.Mathlib.Omega.{arith}
-use Rattle.pen.proofs.Putting.{pens-more}
+use Rattle.pen.proofs.Putting.{pens_more}
 use Rattle.pen.proofs.Digits.{decimal_end}
 use borrow.Author.Rules.{rules}
 use Rattle.shown_rows.proofs.put_node.Statement.{statement}
@@ -22,7 +22,7 @@ returns : tie.Need-returns
 returns c =
     let number = c.before.before in
     let word = number.before.before.before.before in (
-      pens-more word.put_word.ensures number.put-number.ensures,
+      pens_more word.put_word.ensures number.put-number.ensures,
       omega (arith, word.put_word.ensures.ends, decimal_end _ number.put-number.ensures),
     )
 

@@ -3,7 +3,7 @@ use Prim.Native.Nat.{◌-◌}
 use mathlib.Core.Path.{refl}
 use lib.ListN.{length, drop, replicate}
 use native.Mathlib.Omega.{arith}
-use Rattle.pen.proofs.Putting.{pens-more, pens-as}
+use Rattle.pen.proofs.Putting.{pens_more, pens_as}
 use Rattle.shown_rows.proofs.Lining.{right_long, right_short, taken_short}
 use borrow.Author.Rules.{rules}
 use Rattle.shown_rows.proofs.put_right.Statement.{statement}
@@ -18,7 +18,7 @@ same_length c = search rules
 returns : tie.Need-returns
 returns c =
     let word = c.before.before in (
-      pens-as (right_long _ word.before.before.if1.true) word.put_word.ensures,
+      pens_as (right_long _ word.before.before.if1.true) word.put_word.ensures,
       omega (arith, word.put_word.ensures.ends),
     )
 
@@ -46,7 +46,7 @@ returns-2 c =
     let blank = word.before.before.before.before in
     let start = blank.before.before.before.before.before.before.before in
     let n = length start.args.word.now in (
-      pens-as (right_short _ _ _ refl refl) (pens-more blank.put-word2.ensures word.put-word3.ensures),
+      pens_as (right_short _ _ _ refl refl) (pens_more blank.put-word2.ensures word.put-word3.ensures),
       omega (
         arith,
         word.put-word3.ensures.ends,

@@ -3,7 +3,7 @@
 use mathlib.Core.Path.{◌≡◌, ◌∙◌}
 use native.Mathlib.Omega.{arith}
 use mir.Facts.{to_z-of_z}
-use Rattle.pen.proofs.Putting.{pens_none, pens-more, pens-as, pens_length}
+use Rattle.pen.proofs.Putting.{pens_none, pens_more, pens_as, pens_length}
 use Rattle.lines.proofs.Putting.{put_penned}
 use Rattle.shown_rows.proofs.Lining.{columns_more, row_whole}
 use Prim.Native.Nat.{◌-◌, ◌*◌, ◌≤◌}
@@ -51,11 +51,11 @@ loop-again c =
     let at = cell.before.before.before.before in (
       omega arith,
       omega (arith, cell.put-column.ensures.1),
-      pens-as
+      pens_as
           (columns_more at.before.before.args.row.now at.loop.i _
           (to_z-of_z (record { sfits = cell.before.put-column-arg2.given }))
           (omega arith))
-          (pens-more at.loop.invariant.2 cell.put-column.ensures.0),
+          (pens_more at.loop.invariant.2 cell.put-column.ensures.0),
     )
 
 put-requires : tie.Need-put-requires invariant-loop decreases-loop
@@ -72,8 +72,8 @@ returns : tie.Need-returns invariant-loop decreases-loop
 returns c =
     let at = loop-of c in
     put_penned _ _ _ _ _ (omega (arith, c.before.before.put.ensures.ends))
-    (pens-as (row_whole at.before.before.args.row.now at.loop.i (omega arith))
-    (pens-more at.loop.inv.2 c.before.before.put.ensures))
+    (pens_as (row_whole at.before.before.args.row.now at.loop.i (omega arith))
+    (pens_more at.loop.inv.2 c.before.before.put.ensures))
 
 pub put-row-spec : {M : Type 1} → statement M
 put-row-spec =

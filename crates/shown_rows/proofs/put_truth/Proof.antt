@@ -1,7 +1,7 @@
 -- `put_truth` meets its contract, by the boolean.
 use mathlib.Core.Path.{sym, ap}
 use native.Mathlib.Omega.{arith}
-use Rattle.pen.proofs.Putting.{pens-as}
+use Rattle.pen.proofs.Putting.{pens_as}
 use Rattle.shown_rows.specs.Rows.{truth_word}
 use borrow.Author.Rules.{rules}
 use Rattle.shown_rows.proofs.put_truth.Statement.{statement}
@@ -25,7 +25,7 @@ same_length c = search rules
 returns : tie.Need-returns
 returns c =
     let word = c.before.before in (
-      pens-as (sym (ap truth_word word.before.before.before.if1.true)) word.put_word.ensures,
+      pens_as (sym (ap truth_word word.before.before.before.if1.true)) word.put_word.ensures,
       omega (arith, word.put_word.ensures.ends),
     )
 
@@ -35,7 +35,7 @@ same-length-2 c = search rules
 returns-2 : tie.Need-returns-2
 returns-2 c =
     let word = c.before.before in (
-      pens-as (sym (ap truth_word word.before.before.before.if1.false)) word.put-word2.ensures,
+      pens_as (sym (ap truth_word word.before.before.before.if1.false)) word.put-word2.ensures,
       omega (arith, word.put-word2.ensures.ends),
     )
 

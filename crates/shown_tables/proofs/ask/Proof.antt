@@ -3,7 +3,7 @@
 use Prim.Native.Nat.{◌-◌}
 use mathlib.Core.Path.{◌≡◌}
 use native.Mathlib.Omega.{arith}
-use Rattle.pen.proofs.Putting.{pens-more, pens-as}
+use Rattle.pen.proofs.Putting.{pens_more, pens_as}
 use Rattle.lines.proofs.Putting.{put_penned}
 use Rattle.shown_tables.proofs.Placing.{asked_three, asked_more}
 use borrow.Author.Rules.{rules}
@@ -32,7 +32,7 @@ returns c =
     let end = start.args.end in
     let whole : end - 0 ≡ end = omega arith in
     put_penned _ _ _ _ _ (search rules)
-    (pens-as (asked_three _ end _ _ (end - 0) whole c.if1.true) plan.put_word.ensures)
+    (pens_as (asked_three _ end _ _ (end - 0) whole c.if1.true) plan.put_word.ensures)
 
 cast-t15 : tie.Need-overflow-cast-t15
 cast-t15 c = search rules
@@ -58,8 +58,8 @@ returns-2 c =
     let end = start.args.end in
     let whole : end - 0 ≡ end = omega arith in
     put_penned _ _ _ _ _ (search rules)
-    (pens-as (asked_more _ end _ _ (end - 0) whole other.if1.false start.requires.2)
-    (pens-more plan.put_word.ensures more.put-word2.ensures))
+    (pens_as (asked_more _ end _ _ (end - 0) whole other.if1.false start.requires.2)
+    (pens_more plan.put_word.ensures more.put-word2.ensures))
 
 pub ask-spec : {M : Type 1} → statement M
 ask-spec =

@@ -2,7 +2,7 @@
 use mathlib.Core.Logic.{inr}
 use native.Mathlib.Omega.{arith}
 use Rattle.laws.proofs.Rows.{length_row}
-use Rattle.stack.proofs.Leaving.{leaves-crowded, leaves-added}
+use Rattle.stack.proofs.Leaving.{leaves_crowded, leaves_added}
 use borrow.Author.Rules.{rules}
 use Rattle.stack.proofs.again.Statement.{statement}
 use Rattle.stack.proofs.again.Tie as tie
@@ -15,7 +15,7 @@ returns c =
     let a = c.before in
     let s = length_row a.args.work.now a.args.start a.args.n
     (omega (arith, a.requires.0.low, a.requires.0.lent)) in
-    leaves-crowded _ _ _ _ _ _ _ a.requires.0
+    leaves_crowded _ _ _ _ _ _ _ a.requires.0
     (omega (arith, a.requires.0.low, a.requires.0.lent, s))
 
 copy-requires : tie.Need-copy-requires
@@ -31,7 +31,7 @@ returns-2 c =
     let a = c.before.before.before.before in
     let s = length_row a.args.work.now a.args.start a.args.n
     (omega (arith, a.requires.0.low, a.requires.0.lent)) in
-    leaves-added _ _ _ _ _ _ _ a.requires.0 _ _ _ _ (omega (arith, c.before.before.before.if1.false))
+    leaves_added _ _ _ _ _ _ _ a.requires.0 _ _ _ _ (omega (arith, c.before.before.before.if1.false))
     c.before.copy.ensures s (omega arith) (λ e h. h)
 
 pub again_spec : {M : Type 1} → statement M

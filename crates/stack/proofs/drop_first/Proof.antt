@@ -8,7 +8,7 @@ use Rattle.laws.specs.Rows.{row}
 use Rattle.laws.proofs.Rows.{length_row}
 use Rattle.stack.specs.Stack.{FitPair}
 use Rattle.stack.specs.Moves.{kept}
-use Rattle.stack.proofs.Leaving.{leaves-pair, leaves-as, leaves-laid, pair-stopped, fit_sums}
+use Rattle.stack.proofs.Leaving.{leaves_pair, leaves_as, leaves_laid, pair_stopped, fit_sums}
 use borrow.Author.Rules.{rules}
 use Rattle.stack.proofs.drop_first.Statement.{statement}
 use Rattle.stack.proofs.drop_first.Tie as tie
@@ -30,7 +30,7 @@ join-requires c κs = fit_sums c.before.args.top _ c.before.args.pair c.before.r
 returns : tie.Need-returns
 unfolding kept
 returns c = λ room f.
-    leaves-as _ _ _ _ _ _ _ _ _ refl (sym c.join.ensures) (pair-stopped _ room _ _ _ c.before.match.keys2)
+    leaves_as _ _ _ _ _ _ _ _ _ refl (sym c.join.ensures) (pair_stopped _ room _ _ _ c.before.match.keys2)
 
 add-copy : tie.Need-overflow-add-copy
 add-copy c =
@@ -55,8 +55,8 @@ returns-2 c = λ room f.
     let s : length (row a.work.now (a.top + p.0.0) p.0.1.0) ≡ p.0.1.0 =
     length_row _ _ _ (omega (arith, h.0, h.1)) in
     let g = subst (FitPair _ room) p.1 f in
-    leaves-pair _ room _ _ _ _ _ _ _ _ _ p.1
-    (leaves-laid _ _ _ _ _ _ _ _ _ c.before.copy.ensures (omega (arith, s, h.0, h.1)) s (omega (arith, g.0))
+    leaves_pair _ room _ _ _ _ _ _ _ _ _ p.1
+    (leaves_laid _ _ _ _ _ _ _ _ _ c.before.copy.ensures (omega (arith, s, h.0, h.1)) s (omega (arith, g.0))
     g.1 (λ e d. d))
 
 pub drop-first-spec : {M : Type 1} → statement M

@@ -10,7 +10,7 @@ use Rattle.laws.proofs.Rows.{length_row}
 use Rattle.meaning.specs.Counted.{adding}
 use Rattle.stack.specs.Stack.{Fit}
 use Rattle.stack.specs.Moves.{counted, raised}
-use Rattle.stack.proofs.Leaving.{leaves-stopped, leaves-items, leaves-raised, leaves-as}
+use Rattle.stack.proofs.Leaving.{leaves_stopped, leaves_items, leaves_raised, leaves_as}
 use borrow.Author.Rules.{rules}
 use Rattle.stack.proofs.number.Statement.{statement}
 use Rattle.stack.proofs.number.Tie as tie
@@ -20,7 +20,7 @@ enum-known-operand c = search rules
 
 returns : tie.Need-returns
 unfolding counted
-returns c = leaves-stopped _ _ _ _ _ c.match.keys2
+returns c = leaves_stopped _ _ _ _ _ c.match.keys2
 
 cast-put : tie.Need-overflow-cast-put
 cast-put c =
@@ -44,12 +44,12 @@ returns-2 c =
     let a = at-operand.before.before in
     let o = at-operand.operand.given in
     let f = subst (Fit a.args.top a.args.room) o.1 a.requires.1 in
-    leaves-items _ _ _ _ _ _ _ _ _ _ o.1
-    (leaves-as _ _ _ _ _ _ _ _ _
+    leaves_items _ _ _ _ _ _ _ _ _ _ o.1
+    (leaves_as _ _ _ _ _ _ _ _ _
     (ap (λ (z : ℤ). raised o.0.1.0 (adding (a.args.room - a.args.top) a.args.at 0 (z ∷ [])))
     (to_z-of_z (cast-put c.before.before.before.before)
     ∙ ap pos (sym (length_row _ _ _ (omega (arith, f.0, f.1, a.requires.0.lent))))))
-    (sym c.raise.ensures) (leaves-raised _ _ _ _ _ _ _ _ (omega (arith, f.1)) c.before.before.put.ensures))
+    (sym c.raise.ensures) (leaves_raised _ _ _ _ _ _ _ _ (omega (arith, f.1)) c.before.before.put.ensures))
 
 pub number-spec : {M : Type 1} → statement M
 number-spec =

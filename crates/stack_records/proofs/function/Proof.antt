@@ -9,10 +9,10 @@ use mir.Facts.{to_z-of_z}
 use Rattle.meaning.specs.World as World
 use Rattle.meaning.specs.World.{world_of}
 use Rattle.items.specs.Answers.{tried}
-use Rattle.stack.proofs.Leaving.{put-at}
+use Rattle.stack.proofs.Leaving.{put_at}
 use native.Mathlib.Omega.{arith}
 use Rattle.stack_records.proofs.Applying.{sides_many, sides_more, sides_none, sides_nothing, sides_fail}
-use Rattle.stack_records.proofs.Applying.{sides-both}
+use Rattle.stack_records.proofs.Applying.{sides_both}
 use borrow.Author.Rules.{rules}
 use Rattle.stack_records.proofs.function.Statement.{statement}
 use Rattle.stack_records.proofs.function.Tie as tie
@@ -103,8 +103,8 @@ unfolding world_of tried
 returns-6 c = λ w room t.
     let worked = c.before.before.before in
     let a = start_of worked in
-    sides-both _ _ _ _ _ _ _ _ _ a.pre.0 a.pre.1 room t (omega arith) (omega arith) _ (tried-is worked) _ _
-    (ap tried c.before.tried.given.1) (put-at _ _ _ _ (to_z-of_z (narrow c)) (omega arith))
+    sides_both _ _ _ _ _ _ _ _ _ a.pre.0 a.pre.1 room t (omega arith) (omega arith) _ (tried-is worked) _ _
+    (ap tried c.before.tried.given.1) (put_at _ _ _ _ (to_z-of_z (narrow c)) (omega arith))
 
 pub function-spec : {M : Type 1} → statement M
 function-spec =

@@ -1,7 +1,7 @@
 -- `reach` meets its contract: marks of the items, then the step over them.
 use mathlib.Core.Path.{refl}
 use Rattle.meaning.specs.Catalogue.{catalogue_of}
-use Rattle.stack_records.proofs.Reaching.{reaches_all, reaches-not}
+use Rattle.stack_records.proofs.Reaching.{reaches_all, reaches_not}
 use borrow.Author.Rules.{rules}
 use Rattle.stack_records.proofs.reach.Statement.{statement}
 use Rattle.stack_records.proofs.reach.Tie as tie
@@ -22,7 +22,7 @@ returns : tie.Need-returns
 unfolding catalogue_of
 returns c =
     let marked = c.before.before.before.before in
-    reaches-not _ _ _ _ _ _ _ (marked.mark.ensures (catalogue_of _ _) refl) c.enum-told2.given.1
+    reaches_not _ _ _ _ _ _ _ (marked.mark.ensures (catalogue_of _ _) refl) c.enum-told2.given.1
 
 step-requires : tie.Need-step-requires
 step-requires c κs = search rules

@@ -6,7 +6,7 @@ use mir.Facts.{to_z-of_z}
 use Rattle.meaning.specs.World.{world_of}
 use Rattle.stack_records.specs.Arms.{rooted}
 use Rattle.items.specs.Answers.{tried}
-use Rattle.stack.proofs.Leaving.{leaves_fails, leaves-gives, leaves-as, adding_as}
+use Rattle.stack.proofs.Leaving.{leaves_fails, leaves_gives, leaves_as, adding_as}
 use borrow.Author.Rules.{rules}
 use Rattle.stack_records.proofs.root.Statement.{statement}
 use Rattle.stack_records.proofs.root.Tie as tie
@@ -38,9 +38,9 @@ returns-2 : tie.Need-returns-2
 unfolding rooted tried world_of
 returns-2 c =
     let at-found = c.before.before.before.before in
-    leaves-gives _ _ _ _ _ _ _ _ _ _
+    leaves_gives _ _ _ _ _ _ _ _ _ _
     (sym at-found.before.before.root.ensures ∙ ap tried at-found.found.given.1)
-    (leaves-as _ _ _ _ _ _ _ _ _
+    (leaves_as _ _ _ _ _ _ _ _ _
     (adding_as _ _ _ _ _ (to_z-of_z (narrow c.before.before.before))) refl c.before.put.ensures)
 
 pub root-spec : {M : Type 1} → statement M

@@ -5,8 +5,8 @@ use mathlib.Core.Path.{subst}
 use native.Mathlib.Omega.{arith}
 use Rattle.stack.specs.Stack.{Fit}
 use Rattle.stack_records.specs.Arms.{stepped}
-use Rattle.stack.proofs.Leaving.{leaves-stopped}
-use Rattle.stack_records.proofs.Reaching.{leaves_strange, leaves-short, leaves-reached}
+use Rattle.stack.proofs.Leaving.{leaves_stopped}
+use Rattle.stack_records.proofs.Reaching.{leaves_strange, leaves_short, leaves_reached}
 use borrow.Author.Rules.{rules}
 use Rattle.stack_records.proofs.step.Statement.{statement}
 use Rattle.stack_records.proofs.step.Tie as tie
@@ -33,7 +33,7 @@ enum-known-operand c = search rules
 
 returns : tie.Need-returns
 unfolding stepped
-returns c = leaves-stopped _ _ _ _ _ c.match.keys2
+returns c = leaves_stopped _ _ _ _ _ c.match.keys2
 
 add-end : tie.Need-overflow-add-end
 add-end c =
@@ -105,7 +105,7 @@ returns-3 c =
     let told = told_at reached in
     let a = start_of told in
     let o = told.before.operand.given in
-    leaves-short _ _ _ _ _ _ _ _ _ _ _ _ o.1 a.pre.0 a.pre.1 _ _ reached.reach.ensures _
+    leaves_short _ _ _ _ _ _ _ _ _ _ _ _ o.1 a.pre.0 a.pre.1 _ _ reached.reach.ensures _
     all.enum_told.given.1
     c.before.count.ensures c.if1.true
 
@@ -136,7 +136,7 @@ returns-4 c =
     let told = told_at reached in
     let a = start_of told in
     let o = told.before.operand.given in
-    leaves-reached _ _ _ _ _ _ _ _ _ _ _ _ o.1 a.pre.0 a.pre.1 _ _ reached.reach.ensures _ _ _
+    leaves_reached _ _ _ _ _ _ _ _ _ _ _ _ o.1 a.pre.0 a.pre.1 _ _ reached.reach.ensures _ _ _
     all.enum_told.given.1 counted.count.ensures fits.if1.false c.before.before.write.ensures.1
     c.larger.ensures
 

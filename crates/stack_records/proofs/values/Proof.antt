@@ -3,7 +3,7 @@ use mathlib.Core.Path.{subst}
 use native.Mathlib.Omega.{arith}
 use Rattle.stack.specs.Stack.{Fit}
 use Rattle.stack_records.specs.Arms.{valued, Valued}
-use Rattle.stack.proofs.Leaving.{leaves-stopped, leaves-items, leaves-laid, leaves-fails-kept, leaves-gives}
+use Rattle.stack.proofs.Leaving.{leaves_stopped, leaves_items, leaves_laid, leaves_fails_kept, leaves_gives}
 use borrow.Author.Rules.{rules}
 use Rattle.stack_records.proofs.values.Statement.{statement}
 use Rattle.stack_records.proofs.values.Tie as tie
@@ -13,7 +13,7 @@ enum-known-operand c = search rules
 
 returns : tie.Need-returns
 unfolding valued
-returns c = λ room f. leaves-stopped _ room _ _ _ c.match.keys2
+returns c = λ room f. leaves_stopped _ room _ _ _ c.match.keys2
 
 take-values-requires : tie.Need-take-values-requires
 take-values-requires c κs =
@@ -33,9 +33,9 @@ returns-2 c = λ room f.
     let h = subst (Fit a.args.top _) o.1 a.requires.1 in
     let g = subst (Fit a.args.top room) o.1 f in
     let v = subst (Valued _ a.args.top o.0.0 _ _) c.if1.true c.before.before.take-values.ensures in
-    leaves-items _ room _ _ _ _ _ _ _ _ o.1
-    (leaves-gives _ room _ _ _ _ _ _ _ v.0 v.1
-    (leaves-laid _ room _ _ _ _ _ _ v.0 v.3 (omega (arith, v.2, h.0, h.1)) v.2 g.0 g.1 (λ e d. d)))
+    leaves_items _ room _ _ _ _ _ _ _ _ o.1
+    (leaves_gives _ room _ _ _ _ _ _ _ v.0 v.1
+    (leaves_laid _ room _ _ _ _ _ _ v.0 v.3 (omega (arith, v.2, h.0, h.1)) v.2 g.0 g.1 (λ e d. d)))
 
 same-length-2 : tie.Need-same-length-2
 same-length-2 c = search rules
@@ -47,7 +47,7 @@ returns-3 c = λ room f.
     let a = at-operand.before.before.before in
     let o = at-operand.operand.given in
     let v = subst (Valued _ a.args.top o.0.0 _ _) c.if1.false c.before.before.take-values.ensures in
-    leaves-items _ room _ _ _ _ _ _ _ _ o.1 (leaves-fails-kept _ room _ _ _ _ _ _ v.1 v.0)
+    leaves_items _ room _ _ _ _ _ _ _ _ o.1 (leaves_fails_kept _ room _ _ _ _ _ _ v.1 v.0)
 
 pub values-spec : {M : Type 1} → statement M
 values-spec =

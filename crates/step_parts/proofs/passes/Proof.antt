@@ -1,6 +1,6 @@
 -- `step_parts::passes` meets its contract, test by test.
 use borrow.Author.Rules.{rules}
-use Rattle.step_parts.proofs.Passing.{any_is_passed, element-is, text-is}
+use Rattle.step_parts.proofs.Passing.{any_is_passed, element_is, text_is}
 use Rattle.step_parts.proofs.passes.Statement.{statement}
 use Rattle.step_parts.proofs.passes.Tie as tie
 
@@ -29,10 +29,10 @@ returns : tie.Need-returns
 returns c = λ n. any_is_passed _ n _ c.enum_told.given.1
 
 returns-2 : tie.Need-returns-2
-returns-2 c = λ n. element-is _ n _ c.before.enum-told2.given.1 c.kind.ensures.0
+returns-2 c = λ n. element_is _ n _ c.before.enum-told2.given.1 c.kind.ensures.0
 
 returns-3 : tie.Need-returns-3
-returns-3 c = λ n. text-is _ n _ c.before.enum-told3.given.1 c.kind2.ensures.0
+returns-3 c = λ n. text_is _ n _ c.before.enum-told3.given.1 c.kind2.ensures.0
 
 returns-4 : tie.Need-returns-4
 returns-4 c = λ n. rw c.before.before.test.given.1 (c.named.ensures n)

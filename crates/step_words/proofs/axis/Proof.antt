@@ -7,7 +7,7 @@ use Rattle.parsing.specs.Reader.{rest, read_axis}
 use Rattle.spelling.proofs.Bridging.{looks_first, looks_there}
 use Rattle.spelling.proofs.Answering.{by_left}
 use Rattle.spelling.specs.Answers.{axis_told, axis_place}
-use Rattle.spelling.proofs.Choosing.{axis-other}
+use Rattle.spelling.proofs.Choosing.{axis_other}
 use Rattle.step_words.proofs.axis.Statement.{statement}
 use Rattle.step_words.proofs.axis.Tie as tie
 
@@ -120,7 +120,7 @@ returns-7 : tie.Need-returns-7
 unfolding axis_told axis_place
 returns-7 c =
     record {
-      means = axis-other _ _ (looks_first _ _ _ c.before.byte.ensures) c.match.rest;
+      means = axis_other _ _ (looks_first _ _ _ c.before.byte.ensures) c.match.rest;
       inside = omega arith;
     }
 

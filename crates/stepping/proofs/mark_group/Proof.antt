@@ -10,7 +10,7 @@ use Rattle.tables.specs.Layout.{table_at}
 use Rattle.members.specs.Grouped.{in_front}
 use Rattle.tables.proofs.Reading.{length_table}
 use Rattle.members.proofs.Members.{group_none}
-use Rattle.stepping.proofs.Nodes.{Marking, marking-start, marking-more, marking_fails, marking-end}
+use Rattle.stepping.proofs.Nodes.{Marking, marking_start, marking_more, marking_fails, marking_end}
 use borrow.Author.Rules.{rules}
 use Rattle.stepping.proofs.mark_group.Statement.{statement}
 use Rattle.stepping.proofs.mark_group.Tie as tie
@@ -52,7 +52,7 @@ loop-holds c =
     let t = table_at start.args.work.now start.args.s in (
       refl,
       λ d e.
-          marking-start d _ _ _ (ap (λ x. column (group_of t 0 x) 1) (sym start.requires.1))
+          marking_start d _ _ _ (ap (λ x. column (group_of t 0 x) 1) (sym start.requires.1))
           (rw e c.before.before.clear.ensures),
     )
 
@@ -95,7 +95,7 @@ loop-again c =
     let at = then.before.before in (
       one.mark-row.auto.1.1.1.1.1.0 ∙ at.loop.invariant.0,
       λ d e.
-          marking-more d _ _ _ _ _ _ (here then) (at.loop.invariant.1 d e) _ c.enum_told.given.1 (rw e (wide at))
+          marking_more d _ _ _ _ _ _ (here then) (at.loop.invariant.1 d e) _ c.enum_told.given.1 (rw e (wide at))
           (one.mark-row.ensures d e),
     )
 
@@ -111,7 +111,7 @@ returns-2 c =
     let none =
     group_none t 0 start.args.iteration.0 at.loop.i
     (omega (arith, length_table start.args.work.now start.args.s)) in
-    λ d e. marking-end d _ _ _ (ap (λ (u : Table). column u 1) none) (at.loop.invariant.1 d e)
+    λ d e. marking_end d _ _ _ (ap (λ (u : Table). column u 1) none) (at.loop.invariant.1 d e)
 
 pub mark-group-spec : {M : Type 1} → statement M
 mark-group-spec =

@@ -5,7 +5,7 @@ use native.Mathlib.Omega.{arith}
 use Rattle.meaning.specs.Catalogue.{catalogue_of}
 use Rattle.nodesets.proofs.Ranks.{length_ranks}
 use Rattle.tables.specs.Layout.{Inside}
-use Rattle.stepping.proofs.Nodes.{rows_of_lem, step-fails, step_full, step-laid}
+use Rattle.stepping.proofs.Nodes.{rows_of_lem, step_fails, step_full, step_laid}
 use borrow.Author.Rules.{rules}
 use Rattle.stepping.proofs.step_group.Statement.{statement}
 use Rattle.stepping.proofs.step_group.Tie as tie
@@ -41,7 +41,7 @@ returns : tie.Need-returns
 returns c =
     let marking = c.before.before.before.before in
     let start = start_of marking in
-    step-fails _ _ _ _ _ _ _ _ _ _ _
+    step_fails _ _ _ _ _ _ _ _ _ _ _
     (marking.mark-group.ensures (catalogue_of start.args.doc.now start.args.rows) (rows_of_lem _ _))
     c.enum-told2.given.1
 
@@ -102,7 +102,7 @@ returns-3 c =
     let told = stepping.before.before.before in
     let marking = marking-of stepping in
     let start = start_of marking in
-    step-laid _ _ _ _ _ _ _ _ _ _ _ _ _
+    step_laid _ _ _ _ _ _ _ _ _ _ _ _ _
     (marking.mark-group.ensures (catalogue_of start.args.doc.now start.args.rows) (rows_of_lem _ _))
     told.enum_told.given.1
     stepping.step.ensures _ _ _ counting.count.ensures

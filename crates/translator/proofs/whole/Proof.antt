@@ -4,8 +4,8 @@ use mathlib.Core.Path.{refl}
 use lib.Dec.{lit≤}
 use Rattle.adding.specs.Ruled.{operator_of}
 use Rattle.translator.specs.Answers.{answered}
-use Rattle.translator.proofs.Concluding.{whole_asked, whole_room, whole-wrote, many, long, owes-refusal}
-use Rattle.translator.proofs.Concluding.{fits_answer, fits-left}
+use Rattle.translator.proofs.Concluding.{whole_asked, whole_room, whole_wrote, many, long, owes_refusal}
+use Rattle.translator.proofs.Concluding.{fits_answer, fits_left}
 use Rattle.translator.proofs.whole.Statement.{statement}
 use Rattle.translator.proofs.whole.Tie as tie
 
@@ -43,10 +43,10 @@ returns c =
     let first = body.before.before.before.before in
     let start = first.before.before.before.before in
     let wrote =
-    whole-wrote start.args.query.now q read first.add.ensures body.expression.ensures
+    whole_wrote start.args.query.now q read first.add.ensures body.expression.ensures
     last.last.ensures in
     let e = many q _ _ _ wrote test.if1.true in
-    owes-refusal q _ _ _ wrote 2 _ _ e refl c.before.before.clear.ensures
+    owes_refusal q _ _ _ wrote 2 _ _ e refl c.before.before.clear.ensures
 
 clear-requires-2 : tie.Need-clear-requires-2
 clear-requires-2 c κs = search rules
@@ -64,10 +64,10 @@ returns-2 c =
     let first = body.before.before.before.before in
     let start = first.before.before.before.before in
     let wrote =
-    whole-wrote start.args.query.now q read first.add.ensures body.expression.ensures
+    whole_wrote start.args.query.now q read first.add.ensures body.expression.ensures
     last.last.ensures in
     let e = long q _ _ _ wrote tests.before.if1.false tests.if2.true in
-    owes-refusal q _ _ _ wrote 8 _ _ e refl c.before.before.clear2.ensures
+    owes_refusal q _ _ _ wrote 8 _ _ e refl c.before.before.clear2.ensures
 
 clear-requires-3 : tie.Need-clear-requires-3
 clear-requires-3 c κs = search rules
@@ -85,10 +85,10 @@ returns-3 c =
     let first = body.before.before.before.before in
     let start = first.before.before.before.before in
     let wrote =
-    whole-wrote start.args.query.now q read first.add.ensures body.expression.ensures
+    whole_wrote start.args.query.now q read first.add.ensures body.expression.ensures
     last.last.ensures in (
       fits_answer q _ _ _ wrote tests.before.if1.false tests.if2.false,
-      fits-left q _ _ _ wrote tests.before.if1.false tests.if2.false _ c.before.before.clear3.ensures,
+      fits_left q _ _ _ wrote tests.before.if1.false tests.if2.false _ c.before.before.clear3.ensures,
     )
 
 pub whole-spec : {M : Type 1} → statement M

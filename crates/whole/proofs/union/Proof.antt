@@ -5,10 +5,10 @@ use native.Mathlib.Omega.{arith}
 use Rattle.laws.specs.Attempt.{gives}
 use Rattle.tables.specs.declared.Laid.TheVariants.{Rows}
 use Rattle.tables.specs.Layout.{Owes, Inside, table_at}
-use Rattle.tables.proofs.Promise.{owes_is, owes-wide}
+use Rattle.tables.proofs.Promise.{owes_is, owes_wide}
 use Rattle.tables.proofs.Laying.{counted_fits}
-use Rattle.tables.proofs.Standing.{laid-fits, others_stand, length_stands}
-use Rattle.whole.proofs.Copies.{both_first, both-second, both-laid}
+use Rattle.tables.proofs.Standing.{laid_fits, others_stand, length_stands}
+use Rattle.whole.proofs.Copies.{both_first, both_second, both_laid}
 use borrow.Author.Rules.{rules}
 use Rattle.whole.proofs.union.Statement.{statement}
 use Rattle.whole.proofs.union.Tie as tie
@@ -42,7 +42,7 @@ first c = subst (Owes _ _ _ _ _ _) c.before.first.given.1 c.before.before.before
 fits : (c : tie.After-known-told) →
     let g = (start_of c).args in
     g.at + c.before.first.given.0.0 * g.t.width ≤ g.room
-fits c = laid-fits _ _ _ _ _ _ _ (first c)
+fits c = laid_fits _ _ _ _ _ _ _ (first c)
 
 -- the second is laid behind it, as it stood at entry
 second : (c : tie.After-work2) →
@@ -54,7 +54,7 @@ second : (c : tie.After-work2) →
 second c =
     let told = c.before.before.before.before in
     let start = start_of told in
-    owes-wide _ _ _ _ _ _ _ _ (sym start.pre.1.1)
+    owes_wide _ _ _ _ _ _ _ _ (sym start.pre.1.1)
     (owes_is _ _ _ _ _ _ (ap gives (sym (others_stand _ _ _ _ _ _ _ (omega arith) (first told) _ start.pre.0.1)))
     c.before.again2.ensures)
 
@@ -71,7 +71,7 @@ fits2 : (c : tie.After-known-told2) →
     let told = first_of c in
     let g = (start_of told).args in
     g.at + told.before.first.given.0.0 * g.t.width + c.before.second.given.0.0 * g.t.width ≤ g.room
-fits2 c = laid-fits _ _ _ _ _ _ _ (second-rows c)
+fits2 c = laid_fits _ _ _ _ _ _ _ (second-rows c)
 
 mul-again : tie.Need-overflow-mul-again
 mul-again c = omega (arith, fits c.before.before)
@@ -95,7 +95,7 @@ same-length-2 c = search rules
 returns-2 : tie.Need-returns-2
 returns-2 c =
     let told = c.before.before.before.before.before in
-    both-second _ _ _ _ _ _ (omega arith) (omega arith) _ _ (first told) _ _ c.match2.keys2 (second c.before)
+    both_second _ _ _ _ _ _ (omega arith) (omega arith) _ _ (first told) _ _ c.match2.keys2 (second c.before)
 
 add-t14 : tie.Need-overflow-add-t14
 add-t14 c = omega (arith, counted_fits _ _ _ _ _ _ (omega arith) refl (fits2 c))
@@ -106,7 +106,7 @@ same-length-3 c = search rules
 returns-3 : tie.Need-returns-3
 returns-3 c =
     let told = first_of c in
-    both-laid _ _ _ _ _ _ (omega arith) (omega arith) _ _ (first told) _ _ (second-rows c)
+    both_laid _ _ _ _ _ _ (omega arith) (omega arith) _ _ (first told) _ _ (second-rows c)
 
 pub union-spec : {M : Type 1} → statement M
 union-spec =

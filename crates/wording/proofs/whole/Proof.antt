@@ -1,7 +1,7 @@
 -- `whole` meets its contract: the query's text, where it fits.
 use mathlib.Core.Path.{refl}
 use Rattle.wording.specs.Answers.{answered}
-use Rattle.wording.proofs.Concluding.{whole_asked, whole-wrote, owes-refusal, fits_answer, fits-left}
+use Rattle.wording.proofs.Concluding.{whole_asked, whole_wrote, owes_refusal, fits_answer, fits_left}
 use borrow.Author.Rules.{rules}
 use Rattle.wording.proofs.whole.Statement.{statement}
 use Rattle.wording.proofs.whole.Tie as tie
@@ -24,8 +24,8 @@ returns c =
     let test = c.before.before.before.before in
     let body = test.before.before.before in
     let start = body.before.before.before.before in
-    let wrote = whole-wrote start.args.query.now q read body.expression.ensures in
-    owes-refusal q _ _ _ wrote _ _ test.if1.true refl c.before.before.clear.ensures
+    let wrote = whole_wrote start.args.query.now q read body.expression.ensures in
+    owes_refusal q _ _ _ wrote _ _ test.if1.true refl c.before.before.clear.ensures
 
 clear-requires-2 : tie.Need-clear-requires-2
 clear-requires-2 c κs = search rules
@@ -40,9 +40,9 @@ returns-2 c =
     let test = c.before.before.before.before in
     let body = test.before.before.before in
     let start = body.before.before.before.before in
-    let wrote = whole-wrote start.args.query.now q read body.expression.ensures in (
+    let wrote = whole_wrote start.args.query.now q read body.expression.ensures in (
       fits_answer q _ _ _ wrote test.if1.false,
-      fits-left q _ _ _ wrote test.if1.false _ c.before.before.clear2.ensures,
+      fits_left q _ _ _ wrote test.if1.false _ c.before.before.clear2.ensures,
     )
 
 pub whole-spec : {M : Type 1} → statement M

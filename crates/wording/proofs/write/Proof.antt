@@ -3,8 +3,8 @@ use borrow.Author.Rules.{rules}
 use mathlib.Core.Path.{refl}
 use lib.ListN.{length}
 use Rattle.queries.proofs.Callers.{check_reads, check_refuses}
-use Rattle.wording.proofs.Concluding.{refusal_answer, refusal_left, call-refused, call_whole}
-use Rattle.wording.proofs.Concluding.{call-concludes}
+use Rattle.wording.proofs.Concluding.{refusal_answer, refusal_left, call_refused, call_whole}
+use Rattle.wording.proofs.Concluding.{call_concludes}
 use Rattle.wording.proofs.write.Statement.{statement}
 use Rattle.wording.proofs.write.Tie as tie
 
@@ -32,7 +32,7 @@ returns c =
     let x = start.args.text.now in
     let (k, p, q, e) =
     check_refuses bs check.check.result check.check.ensures clear.before.before.match.keys2 in
-    let o = call-refused bs (length x) k p q in
+    let o = call_refused bs (length x) k p q in
     (refusal_answer _ _ k p o _ (c.handed-up.ensures k p e), refusal_left _ _ k p o x _ refl clear.clear.ensures)
 
 whole-requires : tie.Need-whole-requires
@@ -52,7 +52,7 @@ returns-2 c =
     let start = check.before.before.before in
     let bs = start.args.query.now in
     let (r, e, n) = check_reads bs check.check.result check.check.ensures _ told.enum_told.given.1 in
-    call-concludes bs start.args.text.now _ r _ e c.before.before.whole.ensures
+    call_concludes bs start.args.text.now _ r _ e c.before.before.whole.ensures
 
 pub write_spec : {M : Type 1} → statement M
 write_spec =

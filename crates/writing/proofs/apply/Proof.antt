@@ -1,7 +1,7 @@
 -- `apply` meets its contract.
 use Rattle.cells.specs.Bytes.{bytes_of}
 use Rattle.meaning.specs.Written.{operator_bytes}
-use Rattle.pen.proofs.Putting.{pens-more, pens-first}
+use Rattle.pen.proofs.Putting.{pens_more, pens_first}
 use borrow.Author.Rules.{rules}
 use Rattle.writing.proofs.apply.Statement.{statement}
 use Rattle.writing.proofs.apply.Tie as tie
@@ -25,7 +25,7 @@ returns c =
     let last = c.before.before in
     let function = last.before.before in
     let first = function.before.before.before in
-    pens-more first.head.ensures (pens-first function.function-number.ensures last.put_three.ensures)
+    pens_more first.head.ensures (pens_first function.function-number.ensures last.put_three.ensures)
 
 pub apply-spec : {M : Type 1} → statement M
 apply-spec =

@@ -4,7 +4,7 @@ use mir.Facts.{to_z-of_z}
 use lib.IntN.{ℤ}
 use Rattle.cells.specs.Bytes.{bytes_of, bits8}
 use Rattle.meaning.specs.Written.{operator_bytes}
-use Rattle.pen.proofs.Putting.{pens-more, pens-as}
+use Rattle.pen.proofs.Putting.{pens_more, pens_as}
 use borrow.Author.Rules.{rules}
 use Rattle.writing.proofs.attach.Statement.{statement}
 use Rattle.writing.proofs.attach.Tie as tie
@@ -25,7 +25,7 @@ returns c =
     let last = c.before.before in
     let first = last.before.before.before.before in
     let cell = to_z-of_z first.before.before.before.ranges.cell in
-    pens-more first.head.ensures (pens-as (ap (λ (z : ℤ). bytes_of 8 (bits8 z)) cell) last.put8.ensures)
+    pens_more first.head.ensures (pens_as (ap (λ (z : ℤ). bytes_of 8 (bits8 z)) cell) last.put8.ensures)
 
 pub attach_spec : {M : Type 1} → statement M
 attach_spec = tie.close (tie.spec head-requires put8-requires same_length returns)

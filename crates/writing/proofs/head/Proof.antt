@@ -1,6 +1,6 @@
 -- `head` meets its contract.
 use Rattle.cells.specs.Bytes.{bytes_of}
-use Rattle.pen.proofs.Putting.{pens-more}
+use Rattle.pen.proofs.Putting.{pens_more}
 use borrow.Author.Rules.{rules}
 use Rattle.writing.proofs.head.Statement.{statement}
 use Rattle.writing.proofs.head.Tie as tie
@@ -19,7 +19,7 @@ returns : tie.Need-returns
 returns c =
     let last = c.before.before in
     let first = last.before.before.before.before in
-    pens-more first.put2.ensures last.put22.ensures
+    pens_more first.put2.ensures last.put22.ensures
 
 pub head_spec : {M : Type 1} → statement M
 head_spec = tie.close (tie.spec put2-requires put2-requires-2 same_length returns)

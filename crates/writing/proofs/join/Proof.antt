@@ -1,7 +1,7 @@
 -- `join` meets its contract.
 use Rattle.cells.specs.Bytes.{bytes_of}
 use Rattle.meaning.specs.Written.{operator_bytes}
-use Rattle.pen.proofs.Putting.{pens-more}
+use Rattle.pen.proofs.Putting.{pens_more}
 use borrow.Author.Rules.{rules}
 use Rattle.writing.proofs.join.Statement.{statement}
 use Rattle.writing.proofs.join.Tie as tie
@@ -31,8 +31,8 @@ returns c =
     let third = last.before.before.before.before in
     let second = third.before.before.before.before in
     let first = second.before.before.before.before in
-    let middle = pens-more second.put.ensures third.put2.ensures in
-    pens-more (pens-more first.head.ensures middle) last.put3.ensures
+    let middle = pens_more second.put.ensures third.put2.ensures in
+    pens_more (pens_more first.head.ensures middle) last.put3.ensures
 
 pub join-spec : {M : Type 1} → statement M
 join-spec =

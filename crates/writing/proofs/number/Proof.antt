@@ -1,7 +1,7 @@
 -- `number` meets its contract.
 use Rattle.cells.specs.Bytes.{bytes_of}
 use Rattle.meaning.specs.Written.{operator_bytes}
-use Rattle.pen.proofs.Putting.{pens-more}
+use Rattle.pen.proofs.Putting.{pens_more}
 use borrow.Author.Rules.{rules}
 use Rattle.writing.proofs.number.Statement.{statement}
 use Rattle.writing.proofs.number.Tie as tie
@@ -26,7 +26,7 @@ returns c =
     let last = c.before.before in
     let second = last.before.before.before.before in
     let first = second.before.before.before.before in
-    pens-more first.head.ensures (pens-more second.put.ensures last.put-keys.ensures)
+    pens_more first.head.ensures (pens_more second.put.ensures last.put-keys.ensures)
 
 pub number-spec : {M : Type 1} → statement M
 number-spec = tie.close (tie.spec head-requires put-requires put-keys-requires same_length returns)

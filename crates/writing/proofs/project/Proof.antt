@@ -1,7 +1,7 @@
 -- `project` meets its contract.
 use Rattle.cells.specs.Bytes.{bytes_of}
 use Rattle.meaning.specs.Written.{operator_bytes}
-use Rattle.pen.proofs.Putting.{pens-more}
+use Rattle.pen.proofs.Putting.{pens_more}
 use borrow.Author.Rules.{rules}
 use Rattle.writing.proofs.project.Statement.{statement}
 use Rattle.writing.proofs.project.Tie as tie
@@ -21,7 +21,7 @@ unfolding operator_bytes
 returns c =
     let last = c.before.before in
     let first = last.before.before.before.before in
-    pens-more first.head.ensures last.put-columns.ensures
+    pens_more first.head.ensures last.put-columns.ensures
 
 pub project-spec : {M : Type 1} → statement M
 project-spec = tie.close (tie.spec head-requires put-columns-requires same_length returns)

@@ -5,7 +5,7 @@ use mathlib.Core.List.{List, ◌∷◌}
 use lib.ListN.{length}
 use Rattle.writing.specs.declared.Columns.{Columns}
 use Rattle.writing.specs.Listed.{columns_of}
-use Rattle.pen.proofs.Putting.{pens-more, pens-as}
+use Rattle.pen.proofs.Putting.{pens_more, pens_as}
 use borrow.Author.Rules.{rules}
 use Rattle.writing.proofs.put_columns.Statement.{statement}
 use Rattle.writing.proofs.put_columns.Tie as tie
@@ -49,7 +49,7 @@ unfolding columns_of
 returns c =
     let last = c.before.before in
     let case = last.before.before.before in
-    pens-as (ap listed (sym case.columns.given.1)) last.put-pair.ensures
+    pens_as (ap listed (sym case.columns.given.1)) last.put-pair.ensures
 
 same-length-2 : tie.Need-same-length-2
 same-length-2 c = search rules
@@ -59,7 +59,7 @@ unfolding columns_of
 returns-2 c =
     let last = c.before.before in
     let case = last.before.before.before in
-    pens-as (ap listed (sym case.columns2.given.1)) last.put_three.ensures
+    pens_as (ap listed (sym case.columns2.given.1)) last.put_three.ensures
 
 same-length-3 : tie.Need-same-length-3
 same-length-3 c = search rules
@@ -69,7 +69,7 @@ unfolding columns_of
 returns-3 c =
     let last = c.before.before in
     let case = last.before.before.before in
-    pens-as (ap listed (sym case.columns3.given.1)) last.put_four.ensures
+    pens_as (ap listed (sym case.columns3.given.1)) last.put_four.ensures
 
 same-length-4 : tie.Need-same-length-4
 same-length-4 c = search rules
@@ -80,7 +80,7 @@ returns-4 c =
     let last = c.before.before in
     let first = last.before.before.before.before in
     let case = first.before.before.before in
-    pens-as (ap listed (sym case.columns4.given.1)) (pens-more first.put.ensures last.put-four2.ensures)
+    pens_as (ap listed (sym case.columns4.given.1)) (pens_more first.put.ensures last.put-four2.ensures)
 
 pub put-columns-spec : {M : Type 1} → statement M
 put-columns-spec =

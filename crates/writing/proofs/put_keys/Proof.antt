@@ -5,7 +5,7 @@ use mathlib.Core.List.{List, ◌∷◌}
 use lib.ListN.{length}
 use Rattle.writing.specs.declared.Keys.{Keys}
 use Rattle.writing.specs.Listed.{keys_of}
-use Rattle.pen.proofs.Putting.{pens-as}
+use Rattle.pen.proofs.Putting.{pens_as}
 use borrow.Author.Rules.{rules}
 use Rattle.writing.proofs.put_keys.Statement.{statement}
 use Rattle.writing.proofs.put_keys.Tie as tie
@@ -34,7 +34,7 @@ unfolding keys_of
 returns c =
     let last = c.before.before in
     let case = last.before.before.before in
-    pens-as (ap listed (sym case.keys.given.1)) last.put-pair.ensures
+    pens_as (ap listed (sym case.keys.given.1)) last.put-pair.ensures
 
 same-length-2 : tie.Need-same-length-2
 same-length-2 c = search rules
@@ -44,7 +44,7 @@ unfolding keys_of
 returns-2 c =
     let last = c.before.before in
     let case = last.before.before.before in
-    pens-as (ap listed (sym case.keys2.given.1)) last.put_three.ensures
+    pens_as (ap listed (sym case.keys2.given.1)) last.put_three.ensures
 
 pub put-keys-spec : {M : Type 1} → statement M
 put-keys-spec =

@@ -4,7 +4,7 @@ use mathlib.Core.Path.{ap, ap₂}
 use mathlib.Core.List.{[], ◌∷◌}
 use Rattle.cells.specs.Bytes.{bytes_of}
 use Rattle.meaning.specs.Written.{operator_bytes}
-use Rattle.pen.proofs.Putting.{pens-more, pens-as}
+use Rattle.pen.proofs.Putting.{pens_more, pens_as}
 use borrow.Author.Rules.{rules}
 use Rattle.writing.proofs.step.Statement.{statement}
 use Rattle.writing.proofs.step.Tie as tie
@@ -42,9 +42,9 @@ returns c =
     let axis = test.before in
     let first = axis.before.before.before.before in
     let numbers = ap₂ (λ (x y : ℕ). x ∷ y ∷ []) axis.axis-number.ensures test.test-number.ensures in
-    pens-more first.head.ensures
-    (pens-more (pens-as numbers second.put-pair.ensures)
-    (pens-as (ap (bytes_of 2) name.test-name.ensures) last.put2.ensures))
+    pens_more first.head.ensures
+    (pens_more (pens_as numbers second.put-pair.ensures)
+    (pens_as (ap (bytes_of 2) name.test-name.ensures) last.put2.ensures))
 
 pub step_spec : {M : Type 1} → statement M
 step_spec =

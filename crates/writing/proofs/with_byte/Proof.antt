@@ -1,6 +1,6 @@
 -- `with_byte` meets its contract.
 use Rattle.cells.specs.Bytes.{bytes_of}
-use Rattle.pen.proofs.Putting.{pens-more}
+use Rattle.pen.proofs.Putting.{pens_more}
 use borrow.Author.Rules.{rules}
 use Rattle.writing.proofs.with_byte.Statement.{statement}
 use Rattle.writing.proofs.with_byte.Tie as tie
@@ -19,7 +19,7 @@ returns : tie.Need-returns
 returns c =
     let last = c.before.before in
     let first = last.before.before.before.before in
-    pens-more first.head.ensures last.put.ensures
+    pens_more first.head.ensures last.put.ensures
 
 pub with-byte-spec : {M : Type 1} → statement M
 with-byte-spec = tie.close (tie.spec head-requires put-requires same_length returns)

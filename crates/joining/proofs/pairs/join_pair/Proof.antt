@@ -7,8 +7,8 @@ use Rattle.cells.specs.Cell.{same}
 use Rattle.laws.specs.Rows.{row}
 use Rattle.meaning.specs.Operators.{cell}
 use Rattle.joining.specs.Joined.{join_one}
-use Rattle.tables.proofs.Promise.{owes_then, owes-else, none_laid}
-use Rattle.joining.proofs.Joined.{pair-test, pair_full, pair-laid}
+use Rattle.tables.proofs.Promise.{owes_then, owes_else, none_laid}
+use Rattle.joining.proofs.Joined.{pair_test, pair_full, pair_laid}
 use borrow.Author.Rules.{rules}
 use Rattle.joining.proofs.pairs.join_pair.Statement.{statement}
 use Rattle.joining.proofs.pairs.join_pair.Tie as tie
@@ -47,7 +47,7 @@ test : (c : tie.After-same) →
     same (cell (row a.work.now a.a a.w) a.k) (cell (row a.work.now a.b a.v) a.d)
     ≡ c.same.result
 test c =
-    pair-test _ _ _ _ _ _ _ _ (omega arith) (omega arith)
+    pair_test _ _ _ _ _ _ _ _ (omega arith) (omega arith)
     (c.same.ensures
     ∙ ap₂ same (to_z-of_z (record { sfits = c.before.before.same-arg.given }))
     (to_z-of_z (record { sfits = c.before.same-arg2.given })))
@@ -55,7 +55,7 @@ test c =
 returns : tie.Need-returns
 unfolding join_one
 returns c =
-    owes-else _ _ _ _ _ _ _ _ _ (test c.before ∙ not-true _ c.if1.true) (none_laid _ _ _ _ (omega arith))
+    owes_else _ _ _ _ _ _ _ _ _ (test c.before ∙ not-true _ c.if1.true) (none_laid _ _ _ _ (omega arith))
 
 sub-if2 : tie.Need-overflow-sub-if2
 sub-if2 c = search rules
@@ -85,7 +85,7 @@ returns-3 : tie.Need-returns-3
 unfolding join_one
 returns-3 c =
     owes_then _ _ _ _ _ _ _ _ _ (test (same_of c) ∙ not-false _ (else-of c).if1.false)
-    (pair-laid _ _ _ _ _ _ _ (omega arith) (omega arith) (omega arith) _ _ (omega arith) (omega arith)
+    (pair_laid _ _ _ _ _ _ _ (omega arith) (omega arith) (omega arith) _ _ (omega arith) (omega arith)
     c.before.before.before.before.copy.ensures c.before.copy2.ensures)
 
 pub join-pair-spec : {M : Type 1} → statement M

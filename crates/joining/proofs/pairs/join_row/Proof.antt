@@ -12,8 +12,8 @@ use Rattle.joining.specs.Joined.{join_one}
 use Rattle.tables.specs.Laying.{Settled, Laying}
 use Rattle.tables.proofs.Promise.{owes_is}
 use Rattle.tables.proofs.Unrolled.{past_first}
-use Rattle.tables.proofs.Laying.{counted_fits, length-laying, laying_start, row_more, row-stopped, rows-laid}
-use Rattle.joining.proofs.Joined.{each_join, join-same}
+use Rattle.tables.proofs.Laying.{counted_fits, length_laying, laying_start, row_more, row_stopped, rows_laid}
+use Rattle.joining.proofs.Joined.{each_join, join_same}
 use borrow.Author.Rules.{rules}
 use Rattle.joining.proofs.pairs.join_row.Statement.{statement}
 use Rattle.joining.proofs.pairs.join_row.Tie as tie
@@ -42,7 +42,7 @@ abbrev Loop : Type 0
 Loop = tie.At-loop invariant-loop decreases-loop
 
 long : (c : Loop) → length c.loop.work ≡ length c.before.args.work.now
-long c = length-laying _ _ _ _ _ _ _ _ _ (omega arith) c.loop.invariant.1
+long c = length_laying _ _ _ _ _ _ _ _ _ (omega arith) c.loop.invariant.1
 
 -- the first row of s that is left
 first : (c : tie.In-loop invariant-loop decreases-loop) →
@@ -60,7 +60,7 @@ owed : (c : tie.After-work invariant-loop decreases-loop) →
 owed c =
     let at = c.before.before.before.before in
     owes_is _ _ _ _ _ _
-    (join-same _ _ _ _ _ _ _ _ _ _ at.loop.invariant.1.cells_are (omega arith)
+    (join_same _ _ _ _ _ _ _ _ _ _ at.loop.invariant.1.cells_are (omega arith)
     (omega (arith, first c.before.before.before)) (omega arith))
     c.before.join-pair.ensures
 
@@ -100,7 +100,7 @@ unfolding Settled table_at
 returns c =
     let at = c.before.before.before.before in
     owes_is _ _ _ _ _ _ (sym (each_join _ _ _ _))
-    (row-stopped _ _ _ _ _ _ _ _ _ _ _ _ at.loop-test.true (omega arith) at.before.loop.invariant.1 _ _
+    (row_stopped _ _ _ _ _ _ _ _ _ _ _ _ at.loop-test.true (omega arith) at.before.loop.invariant.1 _ _
     c.match.keys2 (_, each_join _ _ _ _) (owed c.before))
 
 add-top : tie.Need-overflow-add-top invariant-loop decreases-loop
@@ -139,7 +139,7 @@ returns-2 : tie.Need-returns-2 invariant-loop decreases-loop
 unfolding table_at
 returns-2 c =
     owes_is _ _ _ _ _ _ (sym (each_join _ _ _ _))
-    (rows-laid _ _ _ _ _ _ _ _ _ _ _ _ (omega arith) c.before.loop.invariant.1)
+    (rows_laid _ _ _ _ _ _ _ _ _ _ _ _ (omega arith) c.before.loop.invariant.1)
 
 pub join-row-spec : {M : Type 1} → statement M
 join-row-spec =

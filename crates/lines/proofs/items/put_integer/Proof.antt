@@ -3,7 +3,7 @@ use mathlib.Core.Path.{refl, ◌∙◌, ap}
 use native.Mathlib.Omega.{arith}
 use mir.Facts.{to_z-of_z}
 use Rattle.lines.specs.Text.{integer_line}
-use Rattle.pen.proofs.Putting.{pens-more, pens-as}
+use Rattle.pen.proofs.Putting.{pens_more, pens_as}
 use Rattle.pen.proofs.Digits.{signed_end}
 use Rattle.lines.proofs.items.put_integer.Statement.{statement}
 use Rattle.lines.proofs.items.put_integer.Tie as tie
@@ -39,8 +39,8 @@ returns c =
     let number = end.before.before.before.before in
     let word = number.before.before.before.before in
     let start = word.before.before.before.before in (
-      pens-as (ap integer_line (to_z-of_z start.ranges.z))
-          (pens-more word.put_word.ensures (pens-more number.put-signed.ensures end.put.ensures)),
+      pens_as (ap integer_line (to_z-of_z start.ranges.z))
+          (pens_more word.put_word.ensures (pens_more number.put-signed.ensures end.put.ensures)),
       omega (
         arith,
         word.put_word.ensures.ends,

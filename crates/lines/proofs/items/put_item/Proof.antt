@@ -5,7 +5,7 @@ use mir.Syntax.{w32}
 use mir.Val.{SFits}
 use mir.Facts.{to_z-of_z}
 use Rattle.lines.specs.Text.{node_line}
-use Rattle.pen.proofs.Putting.{pens_none, pens-as}
+use Rattle.pen.proofs.Putting.{pens_none, pens_as}
 use Rattle.lines.proofs.Lines.{line_stray, line_integer, line_truth, line_node}
 use borrow.Author.Rules.{rules}
 use Rattle.lines.proofs.items.put_item.Statement.{statement}
@@ -23,7 +23,7 @@ enum_told c = search rules
 returns : tie.Need-returns
 returns c =
     let item = c.before.before in (
-      pens-as
+      pens_as
           (line_stray _ _ _ (to_z-of_z item.before.before.ranges.cell) item.item_of.ensures
           c.enum_told.given.1)
           (pens_none _ _),
@@ -64,7 +64,7 @@ returns-2 c =
     let case = line.before.before in
     let held = case.before.before.before.before in
     let item = held.before.before in (
-      pens-as
+      pens_as
           (line_integer _ _ _ (to_z-of_z item.before.before.ranges.cell) item.item_of.ensures _
           held.held.given.1 _ _
           (to_z-of_z (narrow case)) case.before.item.given.1)
@@ -81,7 +81,7 @@ returns-3 c =
     let case = line.before.before in
     let held = case.before.before.before.before in
     let item = held.before.before in (
-      pens-as
+      pens_as
           (line_truth _ _ _ (to_z-of_z item.before.before.ranges.cell) item.item_of.ensures _
           held.held.given.1 _
           case.before.item2.given.1)
@@ -99,7 +99,7 @@ returns-4 c =
     let case = line.before.before.before in
     let held = case.before.before.before.before in
     let item = held.before.before in (
-      pens-as
+      pens_as
           (line_node _ _ _ (to_z-of_z item.before.before.ranges.cell) item.item_of.ensures _
           held.held.given.1 _
           case.before.item3.given.1)

@@ -8,7 +8,7 @@ use mir.Facts.{to_z-of_z}
 use Rattle.laws.specs.Lists.{gather}
 use Rattle.lines.specs.Text.{item_line}
 use Rattle.pen.specs.Penned.{Pens}
-use Rattle.pen.proofs.Putting.{pens_none, pens-more, pens-as, pens_length}
+use Rattle.pen.proofs.Putting.{pens_none, pens_more, pens_as, pens_length}
 use Rattle.lines.proofs.Lines.{lines_more}
 use Rattle.lines.proofs.items.put_items.Statement.{statement}
 use Rattle.lines.proofs.items.put_items.Tie as tie
@@ -49,11 +49,11 @@ loop-again c =
     let at = item.before.before.before.before in (
       omega arith,
       omega (arith, item.put_item.ensures.1),
-      pens-as
+      pens_as
           (lines_more at.before.before.args.cells.now at.loop.i _
           (to_z-of_z (record { sfits = item.before.put-item-arg2.given }))
           (omega arith))
-          (pens-more at.loop.invariant.2 item.put_item.ensures.0),
+          (pens_more at.loop.invariant.2 item.put_item.ensures.0),
     )
 
 same_length : tie.Need-same-length invariant-loop decreases-loop
@@ -64,7 +64,7 @@ returns c =
     let at = c.before in
     let start = at.before.before in
     let all-put : at.loop.i ≡ start.args.n = omega arith in (
-      pens-as (ap (λ (k : ℕ). gather item_line (take k start.args.cells.now)) all-put) at.loop.invariant.2,
+      pens_as (ap (λ (k : ℕ). gather item_line (take k start.args.cells.now)) all-put) at.loop.invariant.2,
       omega arith,
     )
 

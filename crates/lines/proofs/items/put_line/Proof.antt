@@ -1,7 +1,7 @@
 -- `lines::items::put_line` meets its contract: the word, the number, the line's end.
 use mathlib.Core.Path.{◌∙◌}
 use native.Mathlib.Omega.{arith}
-use Rattle.pen.proofs.Putting.{pens-more}
+use Rattle.pen.proofs.Putting.{pens_more}
 use Rattle.pen.proofs.Digits.{decimal_end}
 use Rattle.lines.proofs.items.put_line.Statement.{statement}
 use Rattle.lines.proofs.items.put_line.Tie as tie
@@ -32,7 +32,7 @@ returns c =
     let end = c.before.before in
     let number = end.before.before.before.before in
     let word = number.before.before.before.before in (
-      pens-more word.put_word.ensures (pens-more number.put-number.ensures end.put.ensures),
+      pens_more word.put_word.ensures (pens_more number.put-number.ensures end.put.ensures),
       omega (
         arith,
         word.put_word.ensures.ends,

@@ -2,7 +2,7 @@
 use mathlib.Core.Path.{refl, sym, ap}
 use native.Mathlib.Omega.{arith}
 use Rattle.lines.specs.Text.{truth_line}
-use Rattle.pen.proofs.Putting.{pens-as}
+use Rattle.pen.proofs.Putting.{pens_as}
 use Rattle.lines.proofs.items.put_truth.Statement.{statement}
 use Rattle.lines.proofs.items.put_truth.Tie as tie
 
@@ -25,7 +25,7 @@ returns : tie.Need-returns
 unfolding truth_line
 returns c =
     let word = c.before.before in (
-      pens-as (sym (ap truth_line word.before.before.before.if1.true)) word.put_word.ensures,
+      pens_as (sym (ap truth_line word.before.before.before.if1.true)) word.put_word.ensures,
       omega (arith, word.put_word.ensures.ends),
     )
 
@@ -36,7 +36,7 @@ returns-2 : tie.Need-returns-2
 unfolding truth_line
 returns-2 c =
     let word = c.before.before in (
-      pens-as (sym (ap truth_line word.before.before.before.if1.false)) word.put-word2.ensures,
+      pens_as (sym (ap truth_line word.before.before.before.if1.false)) word.put-word2.ensures,
       omega (arith, word.put-word2.ensures.ends),
     )
 

@@ -5,7 +5,7 @@ use borrow.Author.Rules.{rules}
 use lib.ListN.{length}
 use Rattle.plan_records.specs.Arms as Arms
 use Rattle.plan_records.proofs.Sized.{there, cut_reads}
-use Rattle.plan_records.proofs.Arms.{apply_bad, apply-sound}
+use Rattle.plan_records.proofs.Arms.{apply_bad, apply_sound}
 use Rattle.plan_records.proofs.records.apply.Statement.{statement}
 use Rattle.plan_records.proofs.records.apply.Tie as tie
 
@@ -94,7 +94,7 @@ returns-3 c =
     let z = (columns-read c.before.before.before.before).byte2 in
     let x = c.before.before.before.before.Function-of in
     let g = c.before.before.f.given in
-    apply-sound a.plan.now a.at x.result x.ensures f.result f.ensures e.if1.left
+    apply_sound a.plan.now a.at x.result x.ensures f.result f.ensures e.if1.left
     w.result y.result z.result w.ensures.0 y.ensures.0 z.ensures.0 g.0.0 g.1
     c.sound.result c.sound.ensures
 

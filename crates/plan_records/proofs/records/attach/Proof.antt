@@ -9,7 +9,7 @@ use mir.Val.{to_z, of_z}
 use mir.ValLaws.{to_z-of_z}
 use Rattle.plan_records.specs.Arms as Arms
 use Rattle.plan_records.proofs.Sized.{there, cut_reads}
-use Rattle.plan_records.proofs.Arms.{attach_bad, attach-sound}
+use Rattle.plan_records.proofs.Arms.{attach_bad, attach_sound}
 use Rattle.plan_records.proofs.records.attach.Statement.{statement}
 use Rattle.plan_records.proofs.records.attach.Tie as tie
 
@@ -69,7 +69,7 @@ returns-3 c =
     let w = c.before.before.before.before.word2 in
     let z = c.before.before.before.int8 in
     let p = c.before.before.plain in
-    attach-sound a.plan.now a.at (to_z w64 (of_z w64 z.result))
+    attach_sound a.plan.now a.at (to_z w64 (of_z w64 z.result))
     (to_z-of_z w64 z.result (record { sfits = z.type-inv }) ∙ z.ensures)
     p.result p.ensures f.result f.ensures e.if1.false c.before.if2.false
     w.result w.ensures.0 c.sound.result c.sound.ensures

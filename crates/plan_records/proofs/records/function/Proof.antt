@@ -4,7 +4,7 @@ use native.Mathlib.Omega.{arith}
 use borrow.Author.Rules.{rules}
 use lib.ListN.{length}
 use Rattle.plan_records.proofs.Sized.{there}
-use Rattle.plan_records.proofs.Arms.{function-short, function_value, function_apply}
+use Rattle.plan_records.proofs.Arms.{function_short, function_value, function_apply}
 use Rattle.plan_records.proofs.records.function.Statement.{statement}
 use Rattle.plan_records.proofs.records.function.Tie as tie
 
@@ -19,7 +19,7 @@ returns : tie.Need-returns
 returns c =
     let a = c.before.before.before.args in
     let f = c.before.fits2 in
-    function-short a.plan.now a.at f.result f.ensures c.if1.true
+    function_short a.plan.now a.at f.result f.ensures c.if1.true
 
 room :
     (c : tie.Else1) →

@@ -6,7 +6,7 @@ use lib.ListN.{length}
 use Rattle.plan_records.specs.declared.Operator.TheVariants as Operator
 use Rattle.plan_records.specs.Arms as Arms
 use Rattle.plan_records.specs.Decoded.{operator_of, ColumnsStand}
-use Rattle.plan_records.proofs.Sized.{there, cut_reads, sound-reads}
+use Rattle.plan_records.proofs.Sized.{there, cut_reads, sound_reads}
 use Rattle.plan_records.proofs.records.join.Statement.{statement}
 use Rattle.plan_records.proofs.records.join.Tie as tie
 
@@ -68,7 +68,7 @@ returns-2 c =
     let x = c.before.before.before.byte in
     let y = c.before.before.word22 in
     let z = c.before.byte2 in
-    sound-reads a.plan.now a.at 8 f.result f.ensures _ c.sound.result
+    sound_reads a.plan.now a.at 8 f.result f.ensures _ c.sound.result
     (Operator.Join w.result x.result y.result z.result)
     e.if1.false c.sound.ensures tt (rw (← w.ensures.0, ← x.ensures.0, ← y.ensures.0, ← z.ensures.0))
 

@@ -5,7 +5,7 @@ use borrow.Author.Rules.{rules}
 use lib.ListN.{length}
 use Rattle.plan_records.proofs.Sized.{there}
 use Rattle.plan_records.proofs.Arms.{in_range_lem, before_range, past_range}
-use Rattle.plan_records.proofs.Arms.{number_short, number_cut, number_bad, number-sound}
+use Rattle.plan_records.proofs.Arms.{number_short, number_cut, number_bad, number_sound}
 use Rattle.plan_records.proofs.records.number.Statement.{statement}
 use Rattle.plan_records.proofs.records.number.Tie as tie
 
@@ -92,7 +92,7 @@ returns-3 c =
     let f = e.before.fits3 in
     let w = c.before.before.before.before.word2 in
     let p = c.before.before.before.byte2 in
-    number-sound a.plan.now a.at n.result n.ensures.0 f.result f.ensures e.if2.false
+    number_sound a.plan.now a.at n.result n.ensures.0 f.result f.ensures e.if2.false
     (in_range_lem 1 2 n.result (omega arith) (omega arith)) w.result w.ensures.0 p.result
     p.ensures.0 c.sound.result c.sound.ensures
 

@@ -7,7 +7,7 @@ use mathlib.Core.Path.{refl}
 use Rattle.plan_records.specs.declared.Operator.TheVariants as Operator
 use Rattle.plan_records.specs.Arms as Arms
 use Rattle.plan_records.specs.Decoded.{operator_of, ColumnsStand}
-use Rattle.plan_records.proofs.Sized.{there, cut_reads, sound-reads}
+use Rattle.plan_records.proofs.Sized.{there, cut_reads, sound_reads}
 use Rattle.plan_records.proofs.records.one.Statement.{statement}
 use Rattle.plan_records.proofs.records.one.Tie as tie
 
@@ -41,7 +41,7 @@ returns-2 c =
     let e = c.before in
     let a = e.before.before.before.args in
     let f = e.before.fits2 in
-    sound-reads a.plan.now a.at 2 f.result f.ensures _ c.sound.result Operator.One
+    sound_reads a.plan.now a.at 2 f.result f.ensures _ c.sound.result Operator.One
     e.if1.false c.sound.ensures tt refl
 
 pub one_spec : {M : Type 1} → statement M

@@ -5,7 +5,7 @@ use borrow.Author.Rules.{rules}
 use lib.ListN.{length}
 use Rattle.plan_records.proofs.Sized.{there}
 use Rattle.plan_records.proofs.Arms.{in_range_lem, before_range, past_range}
-use Rattle.plan_records.proofs.Arms.{project_short, project_cut, project_bad, project-sound}
+use Rattle.plan_records.proofs.Arms.{project_short, project_cut, project_bad, project_sound}
 use Rattle.plan_records.proofs.records.project.Statement.{statement}
 use Rattle.plan_records.proofs.records.project.Tie as tie
 
@@ -85,7 +85,7 @@ returns-3 c =
     let n = e.before.before.byte in
     let f = e.before.fits3 in
     let w = c.before.before.before.word2 in
-    project-sound a.plan.now a.at n.result n.ensures.0 f.result f.ensures e.if2.false
+    project_sound a.plan.now a.at n.result n.ensures.0 f.result f.ensures e.if2.false
     (in_range_lem 1 6 n.result (omega arith) (omega arith)) w.result w.ensures.0 c.sound.result
     c.sound.ensures
 

@@ -7,7 +7,7 @@ use lib.ListN.{length}
 use Rattle.cells.specs.Bytes.{byte_at}
 use Rattle.plan_records.specs.Arms as Arms
 use Rattle.plan_records.proofs.Sized.{there, cut_reads}
-use Rattle.plan_records.proofs.Arms.{root_bad, root-sound}
+use Rattle.plan_records.proofs.Arms.{root_bad, root_sound}
 use Rattle.plan_records.proofs.records.root.Statement.{statement}
 use Rattle.plan_records.proofs.records.root.Tie as tie
 
@@ -65,7 +65,7 @@ returns-3 c =
     let a = e.before.before.before.args in
     let f = e.before.fits2 in
     let w = known.before.word2 in
-    root-sound a.plan.now a.at (byte_at a.plan.now (a.at + 4)) refl f.result f.ensures e.if1.false
+    root_sound a.plan.now a.at (byte_at a.plan.now (a.at + 4)) refl f.result f.ensures e.if1.false
     c.before.match.rest.1 (omega (arith, known.shared-slice-known2.given (a.at + 4)))
     w.result w.ensures.0 c.sound.result c.sound.ensures
 

@@ -5,7 +5,7 @@ use borrow.Author.Rules.{rules}
 use lib.ListN.{length}
 use Rattle.plan_records.specs.Arms as Arms
 use Rattle.plan_records.proofs.Sized.{there, cut_reads}
-use Rattle.plan_records.proofs.Arms.{step_no_axis, step_no_test, step-sound}
+use Rattle.plan_records.proofs.Arms.{step_no_axis, step_no_test, step_sound}
 use Rattle.plan_records.proofs.records.step.Statement.{statement}
 use Rattle.plan_records.proofs.records.step.Tie as tie
 
@@ -119,7 +119,7 @@ returns-4 c =
     let n = c.before.before.before.before.before.word22 in
     let y = c.before.before.before.before.test_of in
     let test = c.before.before.test.given in
-    step-sound a.plan.now a.at x.result x.ensures n.result n.ensures.0 y.result y.ensures
+    step_sound a.plan.now a.at x.result x.ensures n.result n.ensures.0 y.result y.ensures
     axis.0.0 axis.1 f.result f.ensures e.if1.left w.result w.ensures.0 test.0.0 test.1
     c.sound.result c.sound.ensures
 

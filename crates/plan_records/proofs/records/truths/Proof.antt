@@ -6,7 +6,7 @@ use lib.ListN.{length}
 use Rattle.plan_records.specs.declared.Operator.TheVariants as Operator
 use Rattle.plan_records.specs.Arms as Arms
 use Rattle.plan_records.specs.Decoded.{operator_of, ColumnsStand}
-use Rattle.plan_records.proofs.Sized.{there, cut_reads, sound-reads}
+use Rattle.plan_records.proofs.Sized.{there, cut_reads, sound_reads}
 use Rattle.plan_records.proofs.records.truths.Statement.{statement}
 use Rattle.plan_records.proofs.records.truths.Tie as tie
 
@@ -47,7 +47,7 @@ returns-2 c =
     let a = e.before.before.before.args in
     let f = e.before.fits2 in
     let w = c.before.word2 in
-    sound-reads a.plan.now a.at 4 f.result f.ensures _ c.sound.result (Operator.Truths w.result)
+    sound_reads a.plan.now a.at 4 f.result f.ensures _ c.sound.result (Operator.Truths w.result)
     e.if1.false c.sound.ensures tt (rw (← w.ensures.0))
 
 pub truths-spec : {M : Type 1} → statement M

@@ -6,7 +6,7 @@ use lib.ListN.{length}
 use Rattle.plan_records.specs.declared.Operator.TheVariants as Operator
 use Rattle.plan_records.specs.Arms as Arms
 use Rattle.plan_records.specs.Decoded.{operator_of, ColumnsStand}
-use Rattle.plan_records.proofs.Sized.{there, cut_reads, sound-reads}
+use Rattle.plan_records.proofs.Sized.{there, cut_reads, sound_reads}
 use Rattle.plan_records.proofs.records.union.Statement.{statement}
 use Rattle.plan_records.proofs.records.union.Tie as tie
 
@@ -54,7 +54,7 @@ returns-2 c =
     let f = e.before.fits2 in
     let w = c.before.before.word2 in
     let x = c.before.word22 in
-    sound-reads a.plan.now a.at 6 f.result f.ensures _ c.sound.result
+    sound_reads a.plan.now a.at 6 f.result f.ensures _ c.sound.result
     (Operator.Union w.result x.result)
     e.if1.false c.sound.ensures tt (rw (← w.ensures.0, ← x.ensures.0))
 

@@ -8,7 +8,7 @@ use Rattle.laws.specs.Rows.{row}
 use Rattle.meaning.specs.Operators.{cell}
 use Rattle.meaning.specs.World as World
 use Rattle.items.specs.Answers.{tried}
-use Rattle.tables.proofs.Promise.{owes-cell, owes_none}
+use Rattle.tables.proofs.Promise.{owes_cell, owes_none}
 use Rattle.tables.proofs.Reading.{cell_read}
 use borrow.Author.Rules.{rules}
 use Rattle.rows.proofs.added.apply.Statement.{statement}
@@ -68,7 +68,7 @@ same_length c = search rules
 returns-2 : tie.Need-returns-2
 unfolding tried
 returns-2 c =
-    owes-cell _ _ _ _ _ _ _ _ _ _
+    owes_cell _ _ _ _ _ _ _ _ _ _
     (sym (ap tried c.before.before.before.before.tried.given.1)
     ∙ cell-is c.before.before.before.before.before.before)
     (to_z-of_z (narrow c.before.before.before)) c.before.attach.ensures

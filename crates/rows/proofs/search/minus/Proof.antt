@@ -2,7 +2,7 @@
 use mathlib.Core.Path.{sym, ◌∙◌}
 use native.Mathlib.Omega.{arith}
 use Rattle.tables.specs.Layout.{Inside}
-use Rattle.tables.proofs.Promise.{owes_then, owes-else, none_laid}
+use Rattle.tables.proofs.Promise.{owes_then, owes_else, none_laid}
 use borrow.Author.Rules.{rules}
 use Rattle.rows.proofs.search.minus.Statement.{statement}
 use Rattle.rows.proofs.search.minus.Tie as tie
@@ -27,7 +27,7 @@ same-length-2 c = search rules
 
 returns-2 : tie.Need-returns-2
 returns-2 c =
-    owes-else _ _ _ _ _ _ _ _ _
+    owes_else _ _ _ _ _ _ _ _ _
     (sym c.before.before.before.before.has-Equal.ensures ∙ c.before.before.before.if1.false)
     c.before.repeat.ensures
 

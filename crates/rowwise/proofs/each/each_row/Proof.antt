@@ -10,11 +10,11 @@ use Rattle.meaning.specs.Catalogue.{catalogue_of}
 use Rattle.tables.specs.declared.Laid.TheVariants.{Rows}
 use Rattle.tables.specs.Layout.{Owes, Inside, table_at}
 use Rattle.rowwise.specs.Tasks.{made, Suits}
-use Rattle.tables.proofs.Promise.{owes_is, owes-wide}
+use Rattle.tables.proofs.Promise.{owes_is, owes_wide}
 use Rattle.tables.proofs.Unrolled.{past_first}
-use Rattle.tables.proofs.Laying.{counted_fits, length-laying, laying_start, row_more, row-stopped, rows-laid}
+use Rattle.tables.proofs.Laying.{counted_fits, length_laying, laying_start, row_more, row_stopped, rows_laid}
 use Rattle.tables.specs.Laying.{Laying}
-use Rattle.rowwise.proofs.Tasks.{suits_up, made-laid}
+use Rattle.rowwise.proofs.Tasks.{suits_up, made_laid}
 use borrow.Author.Rules.{rules}
 use Rattle.rowwise.proofs.each.each_row.Statement.{statement}
 use Rattle.rowwise.proofs.each.each_row.Tie as tie
@@ -45,7 +45,7 @@ loop-holds c = (c.before.before.before.requires.0.0, laying_start _ _ _ _ _ _ (o
 long :
     (c : tie.At-loop invariant-loop decreases-loop)
     → length c.loop.work ≡ length c.before.before.before.before.args.work.now
-long c = length-laying _ _ _ _ _ _ _ _ _ (omega arith) c.loop.invariant.1
+long c = length_laying _ _ _ _ _ _ _ _ _ (omega arith) c.loop.invariant.1
 
 -- the first row that is left
 first : (c : tie.In-loop invariant-loop decreases-loop) →
@@ -68,9 +68,9 @@ owed : (c : tie.After-work invariant-loop decreases-loop) →
     at.loop.work c.before.lay-row.new.1.1.1.1.0 c.before.lay-row.result
 owed c =
     let at = c.before.before.before.before in
-    owes-wide _ _ _ _ _ _ _ _ (sym at.before.wider.ensures)
+    owes_wide _ _ _ _ _ _ _ _ (sym at.before.wider.ensures)
     (owes_is _ _ _ _ _ _
-    (made-laid _ _ _ _ _ (omega arith) _ _ _ _ at.loop.invariant.1.cells_are
+    (made_laid _ _ _ _ _ (omega arith) _ _ _ _ at.loop.invariant.1.cells_are
     (omega (arith, first c.before.before.before)) at.before.before.before.before.requires.1.0)
     c.before.lay-row.ensures)
 
@@ -118,8 +118,8 @@ returns : tie.Need-returns invariant-loop decreases-loop
 unfolding table_at
 returns c =
     let at = c.before.before.before.before in
-    owes-wide _ _ _ _ _ _ _ _ at.before.before.wider.ensures
-    (row-stopped _ _ _ _ _ _ _ _ _ _ _ _ at.loop-test.true (omega arith) at.before.loop.invariant.1 _ _
+    owes_wide _ _ _ _ _ _ _ _ at.before.before.wider.ensures
+    (row_stopped _ _ _ _ _ _ _ _ _ _ _ _ at.loop-test.true (omega arith) at.before.loop.invariant.1 _ _
     c.match.keys2
     at.before.before.before.before.before.requires.1.1.1 (owed c.before))
 
@@ -155,8 +155,8 @@ same-length-2 c = long c.before
 returns-2 : tie.Need-returns-2 invariant-loop decreases-loop
 unfolding table_at
 returns-2 c =
-    owes-wide _ _ _ _ _ _ _ _ c.before.before.wider.ensures
-    (rows-laid _ _ _ _ _ _ _ _ _ _ _ _ (omega arith) c.before.loop.invariant.1)
+    owes_wide _ _ _ _ _ _ _ _ c.before.before.wider.ensures
+    (rows_laid _ _ _ _ _ _ _ _ _ _ _ _ (omega arith) c.before.loop.invariant.1)
 
 pub each-row-spec : {M : Type 1} → statement M
 each-row-spec =

@@ -3,9 +3,9 @@ use native.Mathlib.Omega.{arith}
 use mir.Syntax.{w64}
 use mir.Val.{SFits}
 use mir.Facts.{to_z-of_z}
-use Rattle.tables.proofs.Promise.{attached-is}
+use Rattle.tables.proofs.Promise.{attached_is}
 use Rattle.rowwise.specs.Tasks.{made, wider, Suits}
-use Rattle.rowwise.proofs.Tasks.{task_suits, task-owes}
+use Rattle.rowwise.proofs.Tasks.{task_suits, task_owes}
 use borrow.Author.Rules.{rules}
 use Rattle.rowwise.proofs.each.lay_row.Statement.{statement}
 use Rattle.rowwise.proofs.each.lay_row.Tie as tie
@@ -90,8 +90,8 @@ same_length c = search rules
 returns : tie.Need-returns
 unfolding made wider
 returns c =
-    task-owes _ _ c.before.before.before.before.task.given.1 _ _ _ _ _ _ _ _ _
-    (attached-is _ _ _ _ _ _ _ _ _ (to_z-of_z (narrow c.before.before.before)) c.before.attach.ensures)
+    task_owes _ _ c.before.before.before.before.task.given.1 _ _ _ _ _ _ _ _ _
+    (attached_is _ _ _ _ _ _ _ _ _ (to_z-of_z (narrow c.before.before.before)) c.before.attach.ensures)
 
 same-length-2 : tie.Need-same-length-2
 same-length-2 c = search rules
@@ -99,7 +99,7 @@ same-length-2 c = search rules
 returns-2 : tie.Need-returns-2
 unfolding made wider
 returns-2 c =
-    task-owes _ _ c.before.before.before.before.task2.given.1 _ _ _ _ _ _ _ _ _ c.before.project.ensures
+    task_owes _ _ c.before.before.before.before.task2.given.1 _ _ _ _ _ _ _ _ _ c.before.project.ensures
 
 same-length-3 : tie.Need-same-length-3
 same-length-3 c = search rules
@@ -107,7 +107,7 @@ same-length-3 c = search rules
 returns-3 : tie.Need-returns-3
 unfolding made wider
 returns-3 c =
-    task-owes _ _ c.before.before.before.before.task3.given.1 _ _ _ _ _ _ _ _ _ c.before.minus.ensures
+    task_owes _ _ c.before.before.before.before.task3.given.1 _ _ _ _ _ _ _ _ _ c.before.minus.ensures
 
 same-length-4 : tie.Need-same-length-4
 same-length-4 c = search rules
@@ -115,7 +115,7 @@ same-length-4 c = search rules
 returns-4 : tie.Need-returns-4
 unfolding made wider
 returns-4 c =
-    task-owes _ _ c.before.before.before.before.task4.given.1 _ _ _ _ _ _ _ _ _ c.before.select.ensures
+    task_owes _ _ c.before.before.before.before.task4.given.1 _ _ _ _ _ _ _ _ _ c.before.select.ensures
 
 same-length-5 : tie.Need-same-length-5
 same-length-5 c = search rules
@@ -123,7 +123,7 @@ same-length-5 c = search rules
 returns-5 : tie.Need-returns-5
 unfolding made wider
 returns-5 c =
-    task-owes _ _ c.before.before.before.before.task5.given.1 _ _ _ _ _ _ _ _ _ c.before.apply.ensures
+    task_owes _ _ c.before.before.before.before.task5.given.1 _ _ _ _ _ _ _ _ _ c.before.apply.ensures
 
 same-length-6 : tie.Need-same-length-6
 same-length-6 c = search rules
@@ -131,7 +131,7 @@ same-length-6 c = search rules
 returns-6 : tie.Need-returns-6
 unfolding made wider
 returns-6 c =
-    task-owes _ _ c.before.before.before.before.task6.given.1 _ _ _ _ _ _ _ _ _ c.before.value.ensures
+    task_owes _ _ c.before.before.before.before.task6.given.1 _ _ _ _ _ _ _ _ _ c.before.value.ensures
 
 pub lay-row-spec : {M : Type 1} → statement M
 lay-row-spec =

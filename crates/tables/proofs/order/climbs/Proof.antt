@@ -12,7 +12,7 @@ use Rattle.meaning.specs.Operators.{column}
 use Rattle.tables.specs.Layout.{table_at, Inside}
 use Rattle.tables.proofs.Unrolled.{past_first}
 use Rattle.tables.specs.Order.{climbs}
-use Rattle.tables.proofs.Climbing.{climbs-not, climbs-next, climbs_last}
+use Rattle.tables.proofs.Climbing.{climbs_not, climbs_next, climbs_last}
 use borrow.Author.Rules.{rules}
 use Rattle.tables.proofs.order.climbs.Statement.{statement}
 use Rattle.tables.proofs.order.climbs.Tie as tie
@@ -80,7 +80,7 @@ returns : tie.Need-returns invariant-loop decreases-loop
 unfolding table_at
 returns c =
     let at = c.before.before.before.before in
-    sym (climbs-not _ _ _ _ _ (omega arith) at.loop-test.true (sym (order c.before) ∙ c.if1.true))
+    sym (climbs_not _ _ _ _ _ (omega arith) at.loop-test.true (sym (order c.before) ∙ c.if1.true))
     ∙ at.before.loop.invariant.1
 
 add_a : tie.Need-overflow-add-a invariant-loop decreases-loop
@@ -96,7 +96,7 @@ loop-again : tie.Need-loop-preserved invariant-loop decreases-loop
 loop-again c =
     let at = c.before.before.before.before in (
       omega (arith, first at),
-      sym (climbs-next _ _ _ _ _ (omega arith) at.loop-test.true (sym (order c.before) ∙ c.if1.false))
+      sym (climbs_next _ _ _ _ _ (omega arith) at.loop-test.true (sym (order c.before) ∙ c.if1.false))
           ∙ at.before.loop.invariant.1,
     )
 

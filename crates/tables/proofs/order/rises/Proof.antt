@@ -13,7 +13,7 @@ use Rattle.meaning.specs.Operators.{column}
 use Rattle.tables.specs.Layout.{table_at, Inside}
 use Rattle.tables.specs.Order.{rises}
 use Rattle.tables.proofs.Unrolled.{past_first}
-use Rattle.tables.proofs.Cells.{rises-not, rises_next, rises_last}
+use Rattle.tables.proofs.Cells.{rises_not, rises_next, rises_last}
 use borrow.Author.Rules.{rules}
 use Rattle.tables.proofs.order.rises.Statement.{statement}
 use Rattle.tables.proofs.order.rises.Tie as tie
@@ -79,7 +79,7 @@ before-requires c κs = search rules
 returns : tie.Need-returns invariant-loop decreases-loop
 unfolding table_at
 returns c =
-    sym (rises-not _ _ _ _ _ (omega arith) c.before.before.before.before.loop-test.true
+    sym (rises_not _ _ _ _ _ (omega arith) c.before.before.before.before.loop-test.true
     (sym (order c.before) ∙ not-true _ c.if1.true))
     ∙ c.before.before.before.before.before.loop.invariant.1
 

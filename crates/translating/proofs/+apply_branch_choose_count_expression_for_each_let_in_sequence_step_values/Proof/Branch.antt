@@ -2,7 +2,7 @@
 use Prim.Native.Nat.{ℕ}
 use native.Mathlib.Omega.{arith}
 use Rattle.translating.proofs.Rooms.{room_less, branch_asked}
-use Rattle.translating.proofs.Composing.{branch-made}
+use Rattle.translating.proofs.Composing.{branch_made}
 use borrow.Author.Rules.{rules}
 use Rattle.translating.proofs.branch.Reads as branch
 use Rattle.translating.proofs.expression.Reads as expression
@@ -40,5 +40,5 @@ module _ (t : ℕ) where
       let body = c.before.before in
       let carried = body.before.before.before.before.before.before in
       record {
-        made = λ o e h. branch-made carried.into-branch.ensures body.expression.ensures o e h;
+        made = λ o e h. branch_made carried.into-branch.ensures body.expression.ensures o e h;
       }

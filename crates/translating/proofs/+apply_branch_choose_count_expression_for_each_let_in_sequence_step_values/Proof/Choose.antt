@@ -3,7 +3,7 @@ use Prim.Native.Nat.{ℕ}
 use native.Mathlib.Omega.{arith}
 use Rattle.query_walks.specs.Parse.{parse}
 use Rattle.translating.proofs.Rooms.{room_less, condition_asked, condition_room, then_asked, else_asked}
-use Rattle.translating.proofs.Rooms.{choice-room}
+use Rattle.translating.proofs.Rooms.{choice_room}
 use Rattle.translating.proofs.Composing.{choice_made}
 use Rattle.translating.proofs.branch.Reads as branch
 use Rattle.translating.proofs.choose.Reads as choose
@@ -98,7 +98,7 @@ module _ (t : ℕ) where
       let start = first.before.before.before.before in
       let a = start.args in
       let rd = parse a.depth a.query.now in
-      choice-room rd a.at a.pen start.requires.1
+      choice_room rd a.at a.pen start.requires.1
       first.expression.ensures first.expression.result.pen.operators a.l
       first.expression.result.table head.if-head.ensures
       yea.branch.ensures nay.branch2.ensures

@@ -5,7 +5,7 @@ use native.Mathlib.Omega.{arith}
 use lib.Dec.{lit≤}
 use Rattle.meaning.specs.Query.{QC}
 use Rattle.meaning.specs.Translation.{tr, tail_c}
-use Rattle.translating.proofs.Rooms.{room_less, only_asked, one-room}
+use Rattle.translating.proofs.Rooms.{room_less, only_asked, one_room}
 use Rattle.translating.proofs.Composing.{one_made}
 use borrow.Author.Rules.{rules}
 use Rattle.translating.proofs.count.Reads as count
@@ -29,7 +29,7 @@ module _ (t : ℕ) where
   count-tail-requires c κs =
       let first = c.before.before.before.before in
       let start = first.before.before.before.before in
-      room_less 7 (one-room (QC 0) (λ a. refl) start.requires.1 first.expression.ensures) (lit≤ tt)
+      room_less 7 (one_room (QC 0) (λ a. refl) start.requires.1 first.expression.ensures) (lit≤ tt)
 
   pub same_length : count-lts.Need-same-length (callees t) (count_at t) count.Post
   same_length c = search rules

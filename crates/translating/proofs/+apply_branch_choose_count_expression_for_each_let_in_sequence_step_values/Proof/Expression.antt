@@ -12,10 +12,10 @@ use Rattle.query_records.specs.Decoded.{SmallLiteral}
 use Rattle.query_walks.specs.Parse.{trees, parse}
 use Rattle.query_records.specs.Fields.{Ranged}
 use Rattle.translating.proofs.Rooms.{room_less}
-use Rattle.translating.proofs.Splitting.{leaf_room, leaf-makes, one_asked, one-makes, two_asked, two-makes}
-use Rattle.translating.proofs.Splitting.{three_asked, three-makes}
+use Rattle.translating.proofs.Splitting.{leaf_room, leaf_makes, one_asked, one_makes, two_asked, two_makes}
+use Rattle.translating.proofs.Splitting.{three_asked, three_makes}
 use Rattle.translating.proofs.Dispatching.{deep, unsound, kind_parses, kind_ranged, kind_small}
-use Rattle.translating.proofs.Dispatching.{literal-made, empty_made, root_made, variable-made}
+use Rattle.translating.proofs.Dispatching.{literal_made, empty_made, root_made, variable_made}
 use borrow.Author.Rules.{rules}
 use Rattle.translating.proofs.apply.Reads as apply
 use Rattle.translating.proofs.choose.Reads as choose
@@ -331,8 +331,8 @@ module _ (t : ℕ) where
       let known = told.before.before in
       let a = (start known).args in
       let z = cell.cell-of in
-      leaf-makes (QL _ _) _ (kind-is known told.kind.given.1)
-      (literal-made a.l a.tables _ z.result _ (record { sfits = z.type-inv }) z.ensures rule.literal.ensures)
+      leaf_makes (QL _ _) _ (kind-is known told.kind.given.1)
+      (literal_made a.l a.tables _ z.result _ (record { sfits = z.type-inv }) z.ensures rule.literal.ensures)
 
   pub same-length-2 : expression-lts.Need-same-length-2 (callees t) (expression-at t) expression.Post
   same-length-2 c = search rules
@@ -344,7 +344,7 @@ module _ (t : ℕ) where
       let told = rule.before.before in
       let known = told.before.before in
       let a = (start known).args in
-      leaf-makes (QE _) _ (kind-is known told.enum-told2.given.1)
+      leaf_makes (QE _) _ (kind-is known told.enum-told2.given.1)
       (empty_made a.l a.tables _ rule.empty.ensures)
 
   pub same-length-3 : expression-lts.Need-same-length-3 (callees t) (expression-at t) expression.Post
@@ -357,7 +357,7 @@ module _ (t : ℕ) where
       let told = rule.before.before.before in
       let known = told.before.before in
       let a = (start known).args in
-      leaf-makes (QR _ _) _ (kind-is known told.kind2.given.1)
+      leaf_makes (QR _ _) _ (kind-is known told.kind2.given.1)
       (root_made a.l a.tables _ _ rule.root.ensures)
 
   pub returns-5 : expression-lts.Need-returns-5 (callees t) (expression-at t) expression.Post
@@ -367,8 +367,8 @@ module _ (t : ℕ) where
       let known = told.before.before in
       let a = (start known).args in
       let e = told.kind3.given.1 in
-      leaf-makes (QV _ _) _ (kind-is known e)
-      (variable-made a.at _ _ a.l a.tables _ a.pen c.variable2.result (ranged known e)
+      leaf_makes (QV _ _) _ (kind-is known e)
+      (variable_made a.at _ _ a.l a.tables _ a.pen c.variable2.result (ranged known e)
       c.variable2.ensures)
 
   pub same-length-4 : expression-lts.Need-same-length-4 (callees t) (expression-at t) expression.Post
@@ -382,7 +382,7 @@ module _ (t : ℕ) where
       let known = told.before.before in
       let a = (start known).args in
       let rd = parse (a.depth - 1) a.query.now in
-      two-makes (record { count = λ a b. refl; plan = λ a b n l e. refl }) rd known.before.found.given.0.0.next
+      two_makes (record { count = λ a b. refl; plan = λ a b n l e. refl }) rd known.before.found.given.0.0.next
       (kind-is known told.enum-told3.given.1) rule.sequence.ensures
 
   pub same-length-5 : expression-lts.Need-same-length-5 (callees t) (expression-at t) expression.Post
@@ -396,7 +396,7 @@ module _ (t : ℕ) where
       let known = told.before.before in
       let a = (start known).args in
       let rd = parse (a.depth - 1) a.query.now in
-      two-makes (record { count = λ a b. refl; plan = λ a b n l e. refl }) rd known.before.found.given.0.0.next
+      two_makes (record { count = λ a b. refl; plan = λ a b n l e. refl }) rd known.before.found.given.0.0.next
       (kind-is known told.kind4.given.1) rule.let-in.ensures
 
   pub same-length-6 : expression-lts.Need-same-length-6 (callees t) (expression-at t) expression.Post
@@ -410,7 +410,7 @@ module _ (t : ℕ) where
       let known = told.before.before in
       let a = (start known).args in
       let rd = parse (a.depth - 1) a.query.now in
-      two-makes (record { count = λ a b. refl; plan = λ a b n l e. refl }) rd known.before.found.given.0.0.next
+      two_makes (record { count = λ a b. refl; plan = λ a b n l e. refl }) rd known.before.found.given.0.0.next
       (kind-is known told.kind5.given.1) rule.for-each.ensures
 
   pub same-length-7 : expression-lts.Need-same-length-7 (callees t) (expression-at t) expression.Post
@@ -424,7 +424,7 @@ module _ (t : ℕ) where
       let known = told.before.before in
       let a = (start known).args in
       let rd = parse (a.depth - 1) a.query.now in
-      three-makes (record { count = λ c a b. refl; plan = λ c a b n l e. refl }) rd
+      three_makes (record { count = λ c a b. refl; plan = λ c a b n l e. refl }) rd
       known.before.found.given.0.0.next
       (kind-is known told.enum-told4.given.1) rule.choose.ensures
 
@@ -439,7 +439,7 @@ module _ (t : ℕ) where
       let known = told.before.before in
       let a = (start known).args in
       let rd = parse (a.depth - 1) a.query.now in
-      two-makes (record { count = λ a b. refl; plan = λ a b n l e. refl }) rd known.before.found.given.0.0.next
+      two_makes (record { count = λ a b. refl; plan = λ a b n l e. refl }) rd known.before.found.given.0.0.next
       (kind-is known told.kind6.given.1) rule.apply.ensures
 
   pub same-length-9 : expression-lts.Need-same-length-9 (callees t) (expression-at t) expression.Post
@@ -453,7 +453,7 @@ module _ (t : ℕ) where
       let known = told.before.before in
       let a = (start known).args in
       let rd = parse (a.depth - 1) a.query.now in
-      one-makes (record { count = λ a. refl; plan = λ a n l e. refl }) (rd known.before.found.given.0.0.next)
+      one_makes (record { count = λ a. refl; plan = λ a n l e. refl }) (rd known.before.found.given.0.0.next)
       (kind-is known told.enum-told5.given.1) rule.count.ensures
 
   pub same-length-10 : expression-lts.Need-same-length-10 (callees t) (expression-at t) expression.Post
@@ -467,7 +467,7 @@ module _ (t : ℕ) where
       let known = told.before.before in
       let a = (start known).args in
       let rd = parse (a.depth - 1) a.query.now in
-      one-makes (record { count = λ a. refl; plan = λ a n l e. refl }) (rd known.before.found.given.0.0.next)
+      one_makes (record { count = λ a. refl; plan = λ a n l e. refl }) (rd known.before.found.given.0.0.next)
       (kind-is known told.enum-told6.given.1) rule.values.ensures
 
   pub same-length-11 : expression-lts.Need-same-length-11 (callees t) (expression-at t) expression.Post
@@ -481,5 +481,5 @@ module _ (t : ℕ) where
       let known = told.before.before in
       let a = (start known).args in
       let rd = parse (a.depth - 1) a.query.now in
-      one-makes (record { count = λ a. refl; plan = λ a n l e. refl }) (rd known.before.found.given.0.0.next)
+      one_makes (record { count = λ a. refl; plan = λ a n l e. refl }) (rd known.before.found.given.0.0.next)
       (kind-is known told.kind7.given.1) rule.step.ensures

@@ -5,7 +5,7 @@ use native.Mathlib.Omega.{arith}
 use lib.Dec.{lit≤}
 use Rattle.meaning.specs.Query.{QF}
 use Rattle.query_walks.specs.Parse.{parse}
-use Rattle.translating.proofs.Rooms.{room_less, first_asked, first_room, head_room, body_asked, body-room}
+use Rattle.translating.proofs.Rooms.{room_less, first_asked, first_room, head_room, body_asked, body_room}
 use Rattle.translating.proofs.Composing.{for_made}
 use Rattle.translating.proofs.expression.Reads as expression
 use Rattle.translating.proofs.for_each.Reads as for-each
@@ -148,7 +148,7 @@ module _ (t : ℕ) where
       let a = start.args in
       let rd = parse a.depth a.query.now in
       room_less 3
-      (body-room (QF 0 a.v) (λ a b. refl) rd a.at a.pen start.pre.1 first.expression.ensures
+      (body_room (QF 0 a.v) (λ a b. refl) rd a.at a.pen start.pre.1 first.expression.ensures
       first.expression.result.pen.operators
       first.expression.result.table head.for-head.ensures
       carried.into-body.ensures body.expression2.ensures)

@@ -5,7 +5,7 @@ use native.Mathlib.Omega.{arith}
 use Rattle.meaning.specs.Query.{QT}
 use Rattle.query_walks.specs.Parse.{parse}
 use Rattle.translating.proofs.Rooms.{first_asked, second_asked}
-use Rattle.translating.proofs.Composing.{let-made}
+use Rattle.translating.proofs.Composing.{let_made}
 use borrow.Author.Rules.{rules}
 use Rattle.translating.proofs.expression.Reads as expression
 use Rattle.translating.proofs.let_in.Reads as let-in
@@ -51,6 +51,6 @@ module _ (t : ℕ) where
       let rd = parse a.depth a.query.now in
       record {
         made = λ o e h.
-            let-made rd o first.expression.ensures e h a.v (omega (arith, start.well_formed.1.1.1.1.0))
+            let_made rd o first.expression.ensures e h a.v (omega (arith, start.well_formed.1.1.1.1.0))
             (rw bound.hold.ensures at second.expression2.ensures);
       }

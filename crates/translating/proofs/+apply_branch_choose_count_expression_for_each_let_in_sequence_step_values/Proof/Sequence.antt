@@ -6,7 +6,7 @@ use lib.Dec.{lit≤}
 use Rattle.meaning.specs.Query.{QS}
 use Rattle.meaning.specs.Translation.{tr, tail_s}
 use Rattle.query_walks.specs.Parse.{parse}
-use Rattle.translating.proofs.Rooms.{room_less, first_asked, second_asked, two-room}
+use Rattle.translating.proofs.Rooms.{room_less, first_asked, second_asked, two_room}
 use Rattle.translating.proofs.Composing.{two_made}
 use borrow.Author.Rules.{rules}
 use Rattle.translating.proofs.expression.Reads as expression
@@ -44,7 +44,7 @@ module _ (t : ℕ) where
       let start = first.before.before.before.before in
       let a = start.args in
       let rd = parse a.depth a.query.now in
-      room_less 5 (two-room (QS 0) (λ a b. refl) rd a.at a.pen start.requires.1 first.expression.ensures
+      room_less 5 (two_room (QS 0) (λ a b. refl) rd a.at a.pen start.requires.1 first.expression.ensures
       second.expression2.ensures)
       (lit≤ tt)
 

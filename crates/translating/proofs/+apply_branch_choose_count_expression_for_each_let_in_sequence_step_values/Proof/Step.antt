@@ -5,7 +5,7 @@ use native.Mathlib.Omega.{arith}
 use lib.Dec.{lit≤}
 use Rattle.meaning.specs.Query.{QX}
 use Rattle.meaning.specs.Translation.{tr, tail_x}
-use Rattle.translating.proofs.Rooms.{room_less, only_asked, one-room}
+use Rattle.translating.proofs.Rooms.{room_less, only_asked, one_room}
 use Rattle.translating.proofs.Composing.{one_made}
 use borrow.Author.Rules.{rules}
 use Rattle.translating.proofs.expression.Reads as expression
@@ -32,7 +32,7 @@ module _ (t : ℕ) where
   step-tail-requires c κs =
       let first = c.before.before.before.before in
       let start = first.before.before.before.before in
-      room_less 4 (one-room (QX 0 start.args.axis start.args.test) (λ a. refl) start.requires.1
+      room_less 4 (one_room (QX 0 start.args.axis start.args.test) (λ a. refl) start.requires.1
       first.expression.ensures) (lit≤ tt)
 
   pub same_length : step-lts.Need-same-length (callees t) (step-at t) step.Post

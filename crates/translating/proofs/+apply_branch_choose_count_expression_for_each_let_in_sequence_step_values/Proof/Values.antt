@@ -5,7 +5,7 @@ use native.Mathlib.Omega.{arith}
 use lib.Dec.{lit≤}
 use Rattle.meaning.specs.Query.{QD}
 use Rattle.meaning.specs.Translation.{tr, tail_d}
-use Rattle.translating.proofs.Rooms.{room_less, only_asked, one-room}
+use Rattle.translating.proofs.Rooms.{room_less, only_asked, one_room}
 use Rattle.translating.proofs.Composing.{one_made}
 use borrow.Author.Rules.{rules}
 use Rattle.translating.proofs.expression.Reads as expression
@@ -29,7 +29,7 @@ module _ (t : ℕ) where
   data-tail-requires c κs =
       let first = c.before.before.before.before in
       let start = first.before.before.before.before in
-      room_less 2 (one-room (QD 0) (λ a. refl) start.requires.1 first.expression.ensures) (lit≤ tt)
+      room_less 2 (one_room (QD 0) (λ a. refl) start.requires.1 first.expression.ensures) (lit≤ tt)
 
   pub same_length : values-lts.Need-same-length (callees t) (values-at t) values.Post
   same_length c = search rules

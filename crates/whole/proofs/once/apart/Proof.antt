@@ -13,7 +13,7 @@ use Rattle.meaning.specs.Operators.{column, once}
 use Rattle.tables.specs.Layout.{table_at, Inside}
 use Rattle.tables.proofs.Unrolled.{past_first}
 use Rattle.tables.proofs.Cells.{same_cell}
-use Rattle.whole.proofs.Repeats.{once-again, once-next, once_none}
+use Rattle.whole.proofs.Repeats.{once_again, once_next, once_none}
 use Rattle.whole.proofs.once.apart.Statement.{statement}
 use Rattle.whole.proofs.once.apart.Tie as tie
 
@@ -64,7 +64,7 @@ occurs-requires c κs = omega (arith, first c.before)
 returns : tie.Need-returns invariant-loop decreases-loop
 unfolding table_at
 returns c =
-    sym (once-again _ _ _ _ _ (omega arith) c.before.before.before.loop-test.true
+    sym (once_again _ _ _ _ _ (omega arith) c.before.before.before.loop-test.true
     (sym (again c.before) ∙ c.if1.true))
     ∙ c.before.before.before.before.loop.invariant.1
 
@@ -81,7 +81,7 @@ loop-again : tie.Need-loop-preserved invariant-loop decreases-loop
 loop-again c =
     let at = c.before.before.before in (
       omega (arith, first at),
-      sym (once-next _ _ _ _ _ (omega arith) at.loop-test.true (sym (again c.before) ∙ c.if1.false))
+      sym (once_next _ _ _ _ _ (omega arith) at.loop-test.true (sym (again c.before) ∙ c.if1.false))
           ∙ at.before.loop.invariant.1,
     )
 

@@ -3,7 +3,7 @@ use mathlib.Core.Path.{sym, ◌∙◌}
 use native.Mathlib.Omega.{arith}
 use borrow.Author.Tests.{not-true, not-false}
 use Rattle.tables.specs.Layout.{Inside}
-use Rattle.tables.proofs.Promise.{owes-provided, owes_refused}
+use Rattle.tables.proofs.Promise.{owes_provided, owes_refused}
 use borrow.Author.Rules.{rules}
 use Rattle.whole.proofs.once.once.Statement.{statement}
 use Rattle.whole.proofs.once.once.Tie as tie
@@ -26,7 +26,7 @@ same-length-2 c = search rules
 
 returns-2 : tie.Need-returns-2
 returns-2 c =
-    owes-provided _ _ _ _ _ _ _ _
+    owes_provided _ _ _ _ _ _ _ _
     (sym c.before.before.before.before.unrepeated.ensures ∙ not-false _ c.before.before.before.if1.false)
     c.before.again.ensures
 

@@ -6,7 +6,7 @@ use Rattle.grammar.specs.Grammar.{Level}
 use Rattle.grammar.specs.Written.{looser}
 use Rattle.levels.specs.Levels.{level_of, own_of}
 use Rattle.wording.proofs.Writing.{deep, unsound, headed, open-room, head_room, operands_asked, tail_room}
-use Rattle.wording.proofs.Writing.{close_room, expression-makes}
+use Rattle.wording.proofs.Writing.{close_room, expression_makes}
 use borrow.Author.Rules.{rules}
 use Rattle.wording.proofs.expression.Reads as expression
 use Rattle.wording.proofs.operands.Reads as operands
@@ -199,6 +199,6 @@ module _ (t : ℕ) where
       let level = level_of a.level in
       let pre = (start known).requires in
       let group-is = grouped-is group in
-      expression-makes bs a.at a.depth level a.end pre.1 read.result read.ensures found.0.0
+      expression_makes bs a.at a.depth level a.end pre.1 read.result read.ensures found.0.0
       found.1 group.looser.result group-is opened.put-open.ensures
       head.put-head.ensures inside.operands.ensures tail.put-tail.ensures close.put-close.ensures

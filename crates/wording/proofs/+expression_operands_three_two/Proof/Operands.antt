@@ -3,8 +3,8 @@ use Prim.Native.Nat.{ℕ}
 use native.Mathlib.Omega.{arith}
 use Rattle.query_walks.specs.Parse.{parse}
 use Rattle.levels.specs.Levels.{level_of}
-use Rattle.wording.proofs.Writing.{none-makes, variable-makes, one_asked, one-makes, two_asked, two-makes}
-use Rattle.wording.proofs.Writing.{binding_asked, binding-makes, three_asked, three-makes}
+use Rattle.wording.proofs.Writing.{none_makes, variable_makes, one_asked, one_makes, two_asked, two_makes}
+use Rattle.wording.proofs.Writing.{binding_asked, binding_makes, three_asked, three_makes}
 use borrow.Author.Rules.{rules}
 use Rattle.wording.proofs.expression.Reads as expression
 use Rattle.wording.proofs.operands.Reads as operands
@@ -121,7 +121,7 @@ module _ (t : ℕ) where
       let a = (start follows).args in
       let rd = parse a.depth a.query.now in
       let kind = follows.following in
-      none-makes rd a.at a.kind kind.result kind.ensures
+      none_makes rd a.at a.kind kind.result kind.ensures
       a.text.now a.end c.enum_told.given.1
 
   pub returns-2 : operands-lts.Need-returns-2 (callees t) (operands-at t) operands.Post
@@ -130,7 +130,7 @@ module _ (t : ℕ) where
       let a = (start follows).args in
       let rd = parse a.depth a.query.now in
       let kind = follows.following in
-      variable-makes rd a.at a.kind kind.result kind.ensures
+      variable_makes rd a.at a.kind kind.result kind.ensures
       _ a.text.now a.end c.enum-told2.given.1
 
   pub same_length : operands-lts.Need-same-length (callees t) (operands-at t) operands.Post
@@ -145,7 +145,7 @@ module _ (t : ℕ) where
       let a = (start follows).args in
       let rd = parse a.depth a.query.now in
       let kind = follows.following in
-      one-makes rd a.at a.kind kind.result kind.ensures
+      one_makes rd a.at a.kind kind.result kind.ensures
       told.enum-told3.given.1 (level_of level.first.result) level.first.ensures
       made.expression.ensures
 
@@ -160,7 +160,7 @@ module _ (t : ℕ) where
       let a = (start follows).args in
       let rd = parse a.depth a.query.now in
       let kind = follows.following in
-      two-makes rd a.at a.kind kind.result kind.ensures
+      two_makes rd a.at a.kind kind.result kind.ensures
       told.enum-told4.given.1 made.two.ensures
 
   pub same-length-3 : operands-lts.Need-same-length-3 (callees t) (operands-at t) operands.Post
@@ -174,7 +174,7 @@ module _ (t : ℕ) where
       let a = (start follows).args in
       let rd = parse a.depth a.query.now in
       let kind = follows.following in
-      binding-makes rd a.at a.kind kind.result kind.ensures
+      binding_makes rd a.at a.kind kind.result kind.ensures
       _ told.enum-told5.given.1 made.two2.ensures
 
   pub same-length-4 : operands-lts.Need-same-length-4 (callees t) (operands-at t) operands.Post
@@ -188,5 +188,5 @@ module _ (t : ℕ) where
       let a = (start follows).args in
       let rd = parse a.depth a.query.now in
       let kind = follows.following in
-      three-makes rd a.at a.kind kind.result kind.ensures
+      three_makes rd a.at a.kind kind.result kind.ensures
       told.enum-told6.given.1 made.three.ensures

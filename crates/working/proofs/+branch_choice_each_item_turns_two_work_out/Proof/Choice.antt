@@ -6,7 +6,7 @@ use Rattle.stack.specs.Stack.{Fit}
 use Rattle.items.specs.Answers.{judged}
 use Rattle.meaning.specs.World.{world_of, truth}
 use Rattle.lent.proofs.Moves.{part_row}
-use Rattle.working.proofs.Choosing.{choice-stopped, choice-untrue, choice-chosen}
+use Rattle.working.proofs.Choosing.{choice_stopped, choice_untrue, choice_chosen}
 use borrow.Author.Rules.{rules}
 use Rattle.working.proofs.choice.Reads as choice
 use Rattle.working.proofs.work_out.Reads as work-out
@@ -76,7 +76,7 @@ module _ (t : ℕ) where
   pub returns : choice-lts.Need-returns (choice-callees t) (choice_at t) choice.Post
   returns c =
       let at-work-out = c.before.before in
-      choice-stopped _ _ _ _ _ _ _ _ _ _ c.match.keys2 at-work-out.work-out.ensures
+      choice_stopped _ _ _ _ _ _ _ _ _ _ c.match.keys2 at-work-out.work-out.ensures
 
   pub add-end : choice-lts.Need-overflow-add-end (choice-callees t) (choice_at t) choice.Post
   add-end c =
@@ -126,7 +126,7 @@ module _ (t : ℕ) where
       let s = start in
       let holds =
       ap truth (sym (part_row w.new.1.1.1.1.1.1.0 s.args.top o.0.0)) ∙ sym t.ensures in
-      choice-untrue _ _ _ _ _ _ _ _ _ _ _ _ _ o.1 w.ensures (holds ∙ ap judged c.enum_told.given.1)
+      choice_untrue _ _ _ _ _ _ _ _ _ _ _ _ _ o.1 w.ensures (holds ∙ ap judged c.enum_told.given.1)
 
   pub skip-requires : choice-lts.Need-skip-requires (choice-callees t) (choice_at t) choice.Post
   skip-requires c κs = search rules
@@ -211,7 +211,7 @@ module _ (t : ℕ) where
       let s = start in
       let holds =
       ap truth (sym (part_row w.new.1.1.1.1.1.1.0 s.args.top o.0.0)) ∙ sym t.ensures in
-      choice-chosen _ _ _ _ _ _ _ _ _ _ _ _ _ o.1 w.ensures s.requires.1.1 _ _
+      choice_chosen _ _ _ _ _ _ _ _ _ _ _ _ _ o.1 w.ensures s.requires.1.1 _ _
       at-skip.skip.ensures at-skip2.skip2.ensures
       _ _ _ _ _ _ _ _ (holds ∙ ap judged at-truth2.truth2.given.1)
       at-branch.branch.ensures at-branch2.branch2.ensures

@@ -5,7 +5,7 @@ use native.Mathlib.Omega.{arith}
 use lib.ListN.{length}
 use Rattle.stack.specs.Stack.{Fit}
 use Rattle.working.proofs.Working.{fit_pair_wider}
-use Rattle.working.proofs.Turning.{for-stopped, for-turned}
+use Rattle.working.proofs.Turning.{for_stopped, for_turned}
 use borrow.Author.Rules.{rules}
 use Rattle.working.proofs.each_item.Reads as each_item
 use Rattle.working.proofs.work_out.Reads as work-out
@@ -59,7 +59,7 @@ module _ (t : ℕ) where
   pub returns : each-item-lts.Need-returns (each-item-callees t) (each-item-at t) each_item.Post
   returns c =
       let at-work-out = c.before.before in
-      λ place. for-stopped _ _ place _ _ _ _ _ _ _ _ c.match.keys2 at-work-out.work-out.ensures
+      λ place. for_stopped _ _ place _ _ _ _ _ _ _ _ c.match.keys2 at-work-out.work-out.ensures
 
   pub skip-requires : each-item-lts.Need-skip-requires (each-item-callees t) (each-item-at t) each_item.Post
   skip-requires c κs = search rules
@@ -101,6 +101,6 @@ module _ (t : ℕ) where
       let p = start.requires in
       let w = at-work-out.work-out in
       let u = at-turns.turns in
-      λ place. for-turned _ _ place _ _ _ _ _ _ _ _ _ _ _ _ _ _ _ _ at_a.a.given.1 p.1.1
+      λ place. for_turned _ _ place _ _ _ _ _ _ _ _ _ _ _ _ _ _ _ _ at_a.a.given.1 p.1.1
       (omega (arith, w.auto.1.1.1.1.1.1.0, p.1.2.lent)) w.ensures at-skip.skip.ensures u.ensures
       (at-drop-first.drop-first.ensures _ u.ensures.fit)

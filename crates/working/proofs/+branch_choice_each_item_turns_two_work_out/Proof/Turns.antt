@@ -8,8 +8,8 @@ use Rattle.meaning.specs.World.{world_of}
 use Rattle.query_walks.specs.Parse.{parse}
 use Rattle.working_parts.specs.Scopes.{Scoped}
 use Rattle.working.proofs.Pairing.{adds_stopped}
-use Rattle.working.proofs.Turning.{Turning, turning_start, turning_scoped, turning-on, turning-stopped}
-use Rattle.working.proofs.Turning.{turning-end}
+use Rattle.working.proofs.Turning.{Turning, turning_start, turning_scoped, turning_on, turning_stopped}
+use Rattle.working.proofs.Turning.{turning_end}
 use borrow.Author.Rules.{rules}
 use Rattle.working.proofs.turns.Reads as turns
 use Rattle.working.proofs.work_out.Reads as work-out
@@ -139,7 +139,7 @@ module _ (t : ℕ) where
       let start_of_lem = at-loop.before.before.before in
       let p = start_of_lem.requires in
       let inv = at-loop.loop.invariant in
-      turning-stopped _ _ _ _ _ _ _ _ _ _ _ _ _ inv p.1.1 p.1.3 p.1.2.lent
+      turning_stopped _ _ _ _ _ _ _ _ _ _ _ _ _ inv p.1.1 p.1.3 p.1.2.lent
       at-in-loop.loop-test.true _ _ _ _ _ at-match-keys2.match.keys2 at_bound.bound.ensures
       c.beside.ensures at-work-out.work-out.ensures
 
@@ -193,7 +193,7 @@ module _ (t : ℕ) where
       let p = start_of_lem.requires in
       let inv = at-loop.loop.invariant in
       let k = at-work-out.work-out.auto.1.1.1.1.1.1.0 in
-      turning-on _ _ _ _ _ _ _ _ _ _ _ _ _ inv p.1.1 p.1.3 p.1.2.lent
+      turning_on _ _ _ _ _ _ _ _ _ _ _ _ _ inv p.1.1 p.1.3 p.1.2.lent
       at-in-loop.loop-test.true _ _ _ _ _ _ _ at_turn.turn.given.1 at_bound.bound.ensures
       c.larger.ensures k at-work-out.work-out.ensures
 
@@ -207,4 +207,4 @@ module _ (t : ℕ) where
   returns-2 c =
       let at-loop = c.before in
       let inv = at-loop.loop.invariant in
-      turning-end _ _ _ _ _ _ _ _ _ _ _ _ _ _ (omega (arith, inv.passed)) inv
+      turning_end _ _ _ _ _ _ _ _ _ _ _ _ _ _ (omega (arith, inv.passed)) inv

@@ -4,8 +4,8 @@ use mathlib.Core.Path.{sym, subst}
 use native.Mathlib.Omega.{arith}
 use Rattle.stack.specs.Stack.{Fit}
 use Rattle.working_parts.specs.Scopes.{Scoped, scoping}
-use Rattle.working_parts.proofs.Scoping.{scoped_more, scoped-bound}
-use Rattle.working.proofs.Pairing.{adds_room, adds_stopped, pairs-stopped, pairs-both}
+use Rattle.working_parts.proofs.Scoping.{scoped_more, scoped_bound}
+use Rattle.working.proofs.Pairing.{adds_room, adds_stopped, pairs_stopped, pairs_both}
 use borrow.Author.Rules.{rules}
 use Rattle.working.proofs.two.Reads as two
 use Rattle.working.proofs.work_out.Reads as work-out
@@ -60,7 +60,7 @@ module _ (t : ℕ) where
   returns c =
       let at-match-keys2 = c.before in
       let at-work-out = at-match-keys2.before.before in
-      pairs-stopped _ _ _ _ _ _ _ _ _ _ _ at-match-keys2.match.keys2 at-work-out.work-out.ensures
+      pairs_stopped _ _ _ _ _ _ _ _ _ _ _ at-match-keys2.match.keys2 at-work-out.work-out.ensures
       c.beside.ensures
 
   pub inner-requires : two-lts.Need-inner-requires (two-callees t) (two_at t) two.Post
@@ -85,7 +85,7 @@ module _ (t : ℕ) where
       let a = start.args in
       let l = at_first.first.given.0.0 in
       let inside : Scoped (a.top + l) (scoping a.scope a.binding a.top l) =
-      scoped-bound _ a.top l _ _ p.1.3 (omega arith)
+      scoped_bound _ a.top l _ _ p.1.3 (omega arith)
       (scoped_more a.top (a.top + l) _ (omega arith) p.1.1) in (
         omega (arith, p.0),
         (
@@ -122,7 +122,7 @@ module _ (t : ℕ) where
       let start = at-work-out.before.before.before.before in
       let p = start.requires in
       let w = at-work-out.work-out in
-      pairs-both _ _ _ _ _ _ _ _ _ _ _ _ _ _ _ _ _ at_first.first.given.1 at_inner.inner.ensures
+      pairs_both _ _ _ _ _ _ _ _ _ _ _ _ _ _ _ _ _ at_first.first.given.1 at_inner.inner.ensures
       c.beside2.ensures p.1.1 p.1.3 (omega (arith, w.auto.1.1.1.1.1.1.0, p.1.2.lent))
       w.ensures
       at-work-out2.work-out2.ensures

@@ -12,14 +12,14 @@ use Rattle.query_records.specs.declared.Record.{Record}
 use Rattle.query_records.specs.Decoded.{record_of, SmallLiteral}
 use Rattle.query_walks.specs.Parse.{trees, parse}
 use Rattle.query_records.specs.Fields.{Ranged}
-use Rattle.query_walks.proofs.Callers.{unfound_parses, found-parses, shallow_parses}
+use Rattle.query_walks.proofs.Callers.{unfound_parses, found_parses, shallow_parses}
 use Rattle.query_records.proofs.Callers.{found_sound, found_small}
 use Rattle.stack.specs.Moves.{joined, kept, counted}
 use Rattle.stack_records.specs.Arms.{rooted, applied, valued, stepped}
-use Rattle.stack.proofs.Leaving.{leaves-as, adding_as, fit_sums}
-use Rattle.working.proofs.Working.{fit_wider, fit_pair_wider, leaves_none, leaves-joined}
-use Rattle.working.proofs.Working.{works-nothing, works-as, works-leaf, works-one, works-two}
-use Rattle.working.proofs.Working.{number_is, values_is, step_is, join_is, keep_is, apply-is}
+use Rattle.stack.proofs.Leaving.{leaves_as, adding_as, fit_sums}
+use Rattle.working.proofs.Working.{fit_wider, fit_pair_wider, leaves_none, leaves_joined}
+use Rattle.working.proofs.Working.{works_nothing, works_as, works_leaf, works_one, works_two}
+use Rattle.working.proofs.Working.{number_is, values_is, step_is, join_is, keep_is, apply_is}
 use borrow.Author.Rules.{rules}
 use Rattle.working.proofs.work_out.Reads as work-out
 use Rattle.working.proofs.two.Reads as two
@@ -121,7 +121,7 @@ module _ (t : ℕ) where
       let a = (start c).args in
       let r = c.before.before.before.read in
       let f = c.before.reading.given in
-      found-parses a.query.now a.at r.result r.ensures f.0.0 f.1 a.depth
+      found_parses a.query.now a.at r.result r.ensures f.0.0 f.1 a.depth
       c.before.before.before.before.if1.false
       ∙ ap (λ (k : Record). trees (parse (a.depth - 1) a.query.now) a.at f.0.0.next (record_of k)) e
 
@@ -129,7 +129,7 @@ module _ (t : ℕ) where
   returns c =
       let start_of_lem = c.before.before.before in
       let a = start_of_lem.args in
-      works-nothing _ _ _ _ _ _ _ (shallow_parses a.query.now a.at a.depth c.if1.true)
+      works_nothing _ _ _ _ _ _ _ (shallow_parses a.query.now a.at a.depth c.if1.true)
 
   pub read-requires : work-out-lts.Need-read-requires (work-out-callees t) (work-out-at t) work-out.Post
   read-requires c κs = search rules
@@ -146,7 +146,7 @@ module _ (t : ℕ) where
       let start_of_lem = at_read.before.before.before.before in
       let a = start_of_lem.args in
       let r = at_read.read in
-      works-nothing _ _ _ _ _ _ _ (unfound_parses a.query.now a.at r.result r.ensures
+      works_nothing _ _ _ _ _ _ _ (unfound_parses a.query.now a.at r.result r.ensures
       c.enum_told.given.1 a.depth)
 
   pub sub-left : work-out-lts.Need-overflow-sub-left (work-out-callees t) (work-out-at t) work-out.Post
@@ -346,7 +346,7 @@ module _ (t : ℕ) where
       let at-cell-of = at-put.before.before in
       let at-kind = at-cell-of.before.before in
       let found = at-kind.before.before in
-      works-leaf _ _ _ _ _ _ _ _ (QL _ _) _ _ (tree found _ at-kind.kind.given.1) at-put.put.ensures
+      works_leaf _ _ _ _ _ _ _ _ (QL _ _) _ _ (tree found _ at-kind.kind.given.1) at-put.put.ensures
       (λ e h. adding_as _ _ 0 _ _ (to_z-of_z (narrow at-cell-of) ∙ at-cell-of.cell-of.ensures))
 
   pub returns-4 : work-out-lts.Need-returns-4 (work-out-callees t) (work-out-at t) work-out.Post
@@ -354,7 +354,7 @@ module _ (t : ℕ) where
   returns-4 c =
       let found = c.before.before in
       let start_of_lem = start found in
-      works-leaf _ _ _ _ _ _ _ _ (QE _) _ _ (tree found _ c.enum-told2.given.1)
+      works_leaf _ _ _ _ _ _ _ _ (QE _) _ _ (tree found _ c.enum-told2.given.1)
       (leaves_none _ _ _ _ start_of_lem.pre.1.2.low) (λ e h. refl)
 
   pub same-length-2 : work-out-lts.Need-same-length-2 (work-out-callees t) (work-out-at t) work-out.Post
@@ -366,7 +366,7 @@ module _ (t : ℕ) where
       let at_root = c.before in
       let at-kind2 = at_root.before.before.before in
       let found = at-kind2.before.before in
-      works-leaf _ _ _ _ _ _ _ _ (QR _ _) _ _ (tree found _ at-kind2.kind2.given.1) at_root.root.ensures
+      works_leaf _ _ _ _ _ _ _ _ (QR _ _) _ _ (tree found _ at-kind2.kind2.given.1) at_root.root.ensures
       (λ e h. refl)
 
   pub same-length-3 : work-out-lts.Need-same-length-3 (work-out-callees t) (work-out-at t) work-out.Post
@@ -378,7 +378,7 @@ module _ (t : ℕ) where
       let at-variable = c.before in
       let at-kind3 = at-variable.before.before.before in
       let found = at-kind3.before.before in
-      works-leaf _ _ _ _ _ _ _ _ (QV _ _) _ _ (tree found _ at-kind3.kind3.given.1)
+      works_leaf _ _ _ _ _ _ _ _ (QV _ _) _ _ (tree found _ at-kind3.kind3.given.1)
       at-variable.variable.ensures
       (λ e h. ap (adding _ _ 0) (h _ (ranged found _ at-kind3.kind3.given.1)))
 
@@ -392,9 +392,9 @@ module _ (t : ℕ) where
       let at-enum-told3 = at-two.before.before in
       let found = at-enum-told3.before.before in
       let u = at-two.two in
-      works-two _ _ _ _ _ _ _ _ _ _ (QS _) _ _ _ joined (tree found _ at-enum-told3.enum-told3.given.1)
+      works_two _ _ _ _ _ _ _ _ _ _ (QS _) _ _ _ joined (tree found _ at-enum-told3.enum-told3.given.1)
       (join_is _ _ _) u.ensures
-      (leaves-as _ _ _ _ _ _ _ _ _ refl (sym c.join.ensures) (leaves-joined _ _ _ _ u.ensures.fit))
+      (leaves_as _ _ _ _ _ _ _ _ _ refl (sym c.join.ensures) (leaves_joined _ _ _ _ u.ensures.fit))
 
   pub same-length-5 : work-out-lts.Need-same-length-5 (work-out-callees t) (work-out-at t) work-out.Post
   same-length-5 c = search rules
@@ -407,7 +407,7 @@ module _ (t : ℕ) where
       let at-kind4 = at-two2.before.before.before in
       let found = at-kind4.before.before in
       let u = at-two2.two2 in
-      works-two _ _ _ _ _ _ _ _ _ _ (QT _ _) _ _ _ kept (tree found _ at-kind4.kind4.given.1)
+      works_two _ _ _ _ _ _ _ _ _ _ (QT _ _) _ _ _ kept (tree found _ at-kind4.kind4.given.1)
       (λ e p q. keep_is _ _ _ e _ p q) u.ensures
       (at-drop-first.drop-first.ensures _ u.ensures.fit)
 
@@ -420,7 +420,7 @@ module _ (t : ℕ) where
       let at-each-item = c.before in
       let at-kind5 = at-each-item.before.before.before in
       let found = at-kind5.before.before in
-      works-as _ _ _ _ _ _ _ _ _ (tree found _ at-kind5.kind5.given.1) (at-each-item.each_item.ensures _)
+      works_as _ _ _ _ _ _ _ _ _ (tree found _ at-kind5.kind5.given.1) (at-each-item.each_item.ensures _)
 
   pub same-length-7 : work-out-lts.Need-same-length-7 (work-out-callees t) (work-out-at t) work-out.Post
   same-length-7 c = search rules
@@ -431,7 +431,7 @@ module _ (t : ℕ) where
       let at-choice = c.before in
       let at-enum-told4 = at-choice.before.before in
       let found = at-enum-told4.before.before in
-      works-as _ _ _ _ _ _ _ _ _ (tree found _ at-enum-told4.enum-told4.given.1) at-choice.choice.ensures
+      works_as _ _ _ _ _ _ _ _ _ (tree found _ at-enum-told4.enum-told4.given.1) at-choice.choice.ensures
 
   pub same-length-8 : work-out-lts.Need-same-length-8 (work-out-callees t) (work-out-at t) work-out.Post
   same-length-8 c = search rules
@@ -444,8 +444,8 @@ module _ (t : ℕ) where
       let at-kind6 = at-two3.before.before.before in
       let found = at-kind6.before.before in
       let u = at-two3.two3 in
-      works-two _ _ _ _ _ _ _ _ _ _ (QO _ _) _ _ _ (applied _ _ _) (tree found _ at-kind6.kind6.given.1)
-      (λ e p q. apply-is _ _ _ e _ p q) u.ensures
+      works_two _ _ _ _ _ _ _ _ _ _ (QO _ _) _ _ _ (applied _ _ _) (tree found _ at-kind6.kind6.given.1)
+      (λ e p q. apply_is _ _ _ e _ p q) u.ensures
       (at-apply.apply.ensures _ _ u.ensures.fit)
 
   pub same-length-9 : work-out-lts.Need-same-length-9 (work-out-callees t) (work-out-at t) work-out.Post
@@ -458,7 +458,7 @@ module _ (t : ℕ) where
       let at-work-out = at-number.before.before.before in
       let at-enum-told5 = at-work-out.before.before in
       let found = at-enum-told5.before.before in
-      works-one _ _ _ _ _ _ _ _ _ _ (QC _) _ (counted _ _) (tree found _ at-enum-told5.enum-told5.given.1)
+      works_one _ _ _ _ _ _ _ _ _ _ (QC _) _ (counted _ _) (tree found _ at-enum-told5.enum-told5.given.1)
       (number_is _ _ _) at-work-out.work-out.ensures
       at-number.number.ensures
 
@@ -473,7 +473,7 @@ module _ (t : ℕ) where
       let at-enum-told6 = at-work-out2.before.before in
       let found = at-enum-told6.before.before in
       let u = at-work-out2.work-out2 in
-      works-one _ _ _ _ _ _ _ _ _ _ (QD _) _ (valued _ _) (tree found _ at-enum-told6.enum-told6.given.1)
+      works_one _ _ _ _ _ _ _ _ _ _ (QD _) _ (valued _ _) (tree found _ at-enum-told6.enum-told6.given.1)
       (values_is _ _ _) u.ensures
       (at-values.values.ensures _ u.ensures.fit)
 
@@ -487,6 +487,6 @@ module _ (t : ℕ) where
       let at-work-out3 = at-step.before.before.before in
       let at-kind7 = at-work-out3.before.before.before in
       let found = at-kind7.before.before in
-      works-one _ _ _ _ _ _ _ _ _ _ (QX _ _ _) _ (stepped _ _ _ _ _) (tree found _ at-kind7.kind7.given.1)
+      works_one _ _ _ _ _ _ _ _ _ _ (QX _ _ _) _ (stepped _ _ _ _ _) (tree found _ at-kind7.kind7.given.1)
       (λ e p. step_is _ _ _ e _ _ p) at-work-out3.work-out3.ensures
       at-step.step.ensures
