@@ -8,6 +8,7 @@
 --     leaves_fails, leaves_gives      an attempt of the record at work
 --     leaves_raised             the same where at least k stood
 --     leaves_items, leaves_pair       what is done with an operand's items, or with those of two
+--     not_items, not_pair       what is not items is a refusal, by its tag
 --     leaves_stopped, pair_stopped    an operand that is refused is handed on
 --     stood_joined              both operands' items as those of one
 use Prim.Native.Nat.{ℕ, ◌+◌, ◌-◌, ◌≤◌, ◌<◌}
@@ -17,7 +18,7 @@ use native.Mathlib.Omega.{arith}
 use native.Mathlib.Nat.{le_refl}
 use borrow.Author.Tests.{le-leb, lt-leb}
 use denote.Enum.Declared.{tag_of}
-use types.Run.{OneOf, miss}
+use types.Run.{OneOf, hit, miss}
 use lib.IntN.{ℤ}
 use lib.ListN.{length, take, drop, set}
 use lib.Seq.{take-add, drop-drop}
@@ -35,6 +36,16 @@ use Rattle.stack.specs.Moves.{raised, joined}
 use Rattle.lent.proofs.Moves.{row_here}
 use Rattle.stack.specs.contracts.Stood.{the_type}
 use Rattle.stack.specs.contracts.Pair.{the_type as pair-type}
+
+pub not_items : (a : Stood) → ((l k n : ℕ) → a ≡ Stood.Items l k n → ⊥) → OneOf (1 ∷ 2 ∷ []) (tag_of the_type a)
+not_items (Stood.Items l k n) h = absurd (h l k n refl)
+not_items (Stood.Full p) h = hit (1 ∷ 2 ∷ []) 1 tt
+not_items (Stood.Failed p) h = hit (1 ∷ 2 ∷ []) 2 tt
+
+pub not_pair : (p : Pair) → ((l m k n : ℕ) → p ≡ Pair.Items l m k n → ⊥) → OneOf (1 ∷ 2 ∷ []) (tag_of pair-type p)
+not_pair (Pair.Items l m k n) h = absurd (h l m k n refl)
+not_pair (Pair.Full p) h = hit (1 ∷ 2 ∷ []) 1 tt
+not_pair (Pair.Failed p) h = hit (1 ∷ 2 ∷ []) 2 tt
 
 pub row_append : {A : Type 0} (xs : List A) (a l m : ℕ) → row xs a (l + m) ≡ row xs a l ++ row xs (a + l) m
 unfolding row

@@ -1,0 +1,43 @@
+-- `cells::cell_of` meets its contract, by the item's cases.
+use mathlib.Core.Path.{sym, ◌∙◌, ap, subst}
+use borrow.Author.Rules.{rules}
+use mir.Syntax.{w32, w64}
+use mir.Val.{SFits}
+use mir.Facts.{to_z-of_z, sfits_widen}
+use Rattle.cells.specs.Cell.{cell_of}
+use Rattle.cells.specs.Small.{Small}
+use Rattle.cells.proofs.Bits.{read_back}
+use Rattle.cells.proofs.cell_of.Goals as goal
+
+pub overflow_cast-result : goal.overflow_cast-result
+overflow_cast-result c =
+    let narrow : SFits w32 c.in-Integer.z = search rules in
+    rw (to_z-of_z narrow) (sfits_widen tt narrow)
+
+pub truth_cell-requires : goal.truth_cell-requires
+truth_cell-requires c =
+    tt
+
+pub node_cell-requires : goal.node_cell-requires
+node_cell-requires c =
+    subst Small c.in-Node.is c.requires
+
+pub returns-in-Integer : goal.returns-in-Integer
+unfolding cell_of
+returns-in-Integer c =
+    let narrow : SFits w32 c.in-Integer.z = search rules in
+    to_z-of_z {w = w64} (rw (to_z-of_z narrow) (sfits_widen tt narrow)) ∙ to_z-of_z narrow ∙ sym (ap cell_of c.in-Integer.is)
+
+pub returns-in-Truth : goal.returns-in-Truth
+unfolding cell_of
+returns-in-Truth c =
+    read_back w64 c.truth_cell.type_inv
+    ∙ c.truth_cell.ensures
+    ∙ sym (ap cell_of c.in-Truth.is)
+
+pub returns-in-Node : goal.returns-in-Node
+unfolding cell_of
+returns-in-Node c =
+    read_back w64 c.node_cell.type_inv
+    ∙ c.node_cell.ensures
+    ∙ sym (ap cell_of c.in-Node.is)
