@@ -1,19 +1,43 @@
 // Stored cases: reading them from a file, and printing what a call answers and leaves.
 #![tactic(auto)]
 
-ghost use Rattle.std.specs.Prelude.{◌≤◌, ◌<◌, ◌≡◌, length};
+ghost use Rattle.std.specs.Prelude.{◌≤◌, ◌<◌, ◌≡◌, length, IfOk};
 
-use libc::STDOUT_FILENO;
+use std::io::Read;
+use std::rt::Files;
+use std::{fs, io};
 
-// Opens a file of cases and prints its heading; below 0 where there is no such file.
-pub fn opened(path: &[u8], heading: &[u8]) -> i32 {
-    let fd = os::open_read(path);
-    if fd < 0 {
-        os::fail(path);
-        return fd;
+// Opens a file of cases and prints its heading; none where there is no such file.
+pub fn opened<R: Files + Print + Eprint>(
+    rt: &R,
+    path: &str,
+    heading: &str,
+) -> io::Result<Option<R::File>> {
+    match fs::open(rt, path) {
+        Ok(file) => {
+            rt.print(heading)?;
+            Ok(Some(file))
+        }
+        Err(e) => {
+            eprintln!(rt; "{path}: {e}")?;
+            Ok(None)
+        }
     }
-    io::write_all(STDOUT_FILENO, heading);
-    fd
+}
+
+// Reads until `space` is full or the file ends, and answers how many bytes it put at the start of `space`.
+pub fn read_full(file: &mut impl Read, space: &mut [u8]) -> io::Result<usize>
+    ensures { IfOk result (λ n. n ≤ length space.new) }
+{
+    let mut done: usize = 0;
+    while done < space.len() {
+        let n = file.read(&mut space[done..])?;
+        if n == 0 {
+            break;
+        }
+        done += n;
+    }
+    Ok(done)
 }
 
 fn wide(b: u8) -> usize
@@ -23,53 +47,52 @@ fn wide(b: u8) -> usize
 }
 
 // The next byte of the file, 0 where there is none.
-pub fn next_byte(fd: i32) -> usize
-    ensures { result < 256 }
+pub fn next_byte(file: &mut impl Read) -> io::Result<usize>
+    ensures { IfOk result (λ n. n < 256) }
 {
     let mut one = [0u8; 1];
-    io::read_full(fd, &mut one);
-    wide(one[0])
+    read_full(file, &mut one)?;
+    Ok(wide(one[0]))
 }
 
 // The next number of four bytes.
-pub fn next_number(fd: i32) -> usize
-    ensures { result < 4294967296 }
+pub fn next_number(file: &mut impl Read) -> io::Result<usize>
+    ensures { IfOk result (λ n. n < 4294967296) }
 {
     let mut four = [0u8; 4];
-    io::read_full(fd, &mut four);
-    ((wide(four[0]) * 256 + wide(four[1])) * 256 + wide(four[2])) * 256 + wide(four[3])
+    read_full(file, &mut four)?;
+    Ok(((wide(four[0]) * 256 + wide(four[1])) * 256 + wide(four[2])) * 256 + wide(four[3]))
 }
 
 // Reads the next byte string, its length in two bytes before it, to the start of `space`, and answers its length.
-pub fn load(fd: i32, space: &mut [u8]) -> usize
-    ensures { result ≤ length space.new }
+pub fn load(file: &mut impl Read, space: &mut [u8]) -> io::Result<usize>
+    ensures { IfOk result (λ n. n ≤ length space.new) }
 {
-    let high = next_byte(fd);
-    let low = next_byte(fd);
+    let high = next_byte(file)?;
+    let low = next_byte(file)?;
     let n = high * 256 + low;
     if space.len() < n {
-        return 0;
+        return Ok(0);
     }
-    io::read_full(fd, &mut space[0..n]);
-    n
+    read_full(file, &mut space[0..n])?;
+    Ok(n)
 }
 
 // A word and a number after it.
-pub fn say(word: &[u8], n: usize) {
-    io::write_all(STDOUT_FILENO, word);
-    io::print_decimal(STDOUT_FILENO, n as u64);
+pub fn say(rt: &impl Print, word: &str, n: usize) -> io::Result<()> {
+    print!(rt; "{word}{n}")
 }
 
 // A refusal's number and place.
-pub fn refused(number: usize, place: usize) {
-    say(b"refused ", number);
-    say(b" at ", place);
+pub fn refused(rt: &impl Print, number: usize, place: usize) -> io::Result<()> {
+    say(rt, "refused ", number)?;
+    say(rt, " at ", place)
 }
 
 // The sum of all that was lent, and the end of the line.
-pub fn end(sum: usize) {
-    say(b" sum ", sum);
-    io::write_all(STDOUT_FILENO, b"\n");
+pub fn end(rt: &impl Print, sum: usize) -> io::Result<()> {
+    say(rt, " sum ", sum)?;
+    println!(rt)
 }
 
 // One number more in the sum.
