@@ -3,6 +3,10 @@
 --     pair_full, pair_laid the two rows laid behind each other
 --     each_join            each row of a table, where it joins
 --     join_same            rows that stand below what is laid are joined as they were
+use Rattle.tables.specs.contracts.Laid.{the_type}
+use Rattle.tables.specs.declared.Laid.{Laid}
+use types.Run.{OneOf, hit}
+use denote.Enum.Declared.{tag_of}
 use Prim.Native.Nat.{ℕ, ◌+◌, ◌≤◌, ◌<◌}
 use mathlib.Core.Path.{◌≡◌, refl, sym, ap, ap₂, ◌∙◌}
 use mathlib.Core.List.{List, [], ◌∷◌, ◌++◌, map}
@@ -16,7 +20,7 @@ use Rattle.laws.specs.Rows.{row, laid}
 use Rattle.laws.proofs.Rows.{length_row, row_laid, laid_more}
 use Rattle.laws.specs.Attempt.{Attempt, gives, attempt, each}
 use Rattle.meaning.specs.Operators.{Row, Table, cell}
-use Rattle.tables.specs.declared.Laid.TheVariants.{Rows, Full}
+use Rattle.tables.specs.declared.Laid.TheVariants.{Rows, Full, Fails}
 use Rattle.tables.specs.Layout.{Owes}
 use Rattle.joining.specs.Joined.{join_one}
 use Rattle.tables.proofs.Promise.{one_full, one_laid}
@@ -73,3 +77,9 @@ join_same xs ys at vs a w k b v d e h i g =
     ap₂ (λ (r q : Row). join_one r k d q)
     (sym (row_laid xs at vs a w h g) ∙ ap (λ (l : List ℤ). row l a w) (sym e))
     (sym (row_laid xs at vs b v i g) ∙ ap (λ (l : List ℤ). row l b v) (sym e))
+
+-- what is not rows is full, or fails
+pub not_rows : (o : Laid) → ((n : ℕ) → o ≡ Rows n → ⊥) → OneOf (1 ∷ 2 ∷ []) (tag_of the_type o)
+not_rows (Rows n) h = absurd (h n refl)
+not_rows Full h = hit (1 ∷ 2 ∷ []) 1 tt
+not_rows Fails h = hit (1 ∷ 2 ∷ []) 2 tt

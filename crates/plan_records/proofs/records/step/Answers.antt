@@ -1,0 +1,106 @@
+-- `step` meets its contract: cut, a bad field, or its fields as they stand.
+use Prim.Native.Nat.{◌+◌, ◌≤◌}
+use native.Mathlib.Omega.{arith}
+use borrow.Author.Rules.{rules}
+use lib.ListN.{length}
+use Rattle.plan_records.specs.Arms as Arms
+use Rattle.plan_records.proofs.Sized.{there, cut_reads}
+use Rattle.plan_records.proofs.Arms.{step_no_axis, step_no_test, step_sound}
+use Rattle.plan_records.proofs.records.step.Goals as goal
+
+pub returns-then-not-fits : goal.returns-then-not-fits
+unfolding Arms.step
+returns-then-not-fits c =
+    let a = c.args in
+    let f = c.fits in
+    cut_reads a.plan.now a.at 8 f.result f.ensures _ c.if-not-fits.true
+
+pub overflow_add-next : goal.overflow_add-next
+overflow_add-next c =
+    let room : c.args.at + 8 ≤ length c.args.plan.now = let a = c.args in
+    let f = c.fits in
+    there a.plan.now a.at 8 f.result f.ensures c.if-not-fits.false in
+    omega (arith, room)
+
+pub overflow_add-at : goal.overflow_add-at
+overflow_add-at c =
+    let room : c.args.at + 8 ≤ length c.args.plan.now = let a = c.args in
+    let f = c.fits in
+    there a.plan.now a.at 8 f.result f.ensures c.if-not-fits.false in
+    omega (arith, room)
+
+pub word2-t-requires : goal.word2-t-requires
+word2-t-requires c =
+    let room : c.args.at + 8 ≤ length c.args.plan.now = let a = c.args in
+    let f = c.fits in
+    there a.plan.now a.at 8 f.result f.ensures c.if-not-fits.false in
+    omega (arith, room)
+
+pub overflow_add-at-2 : goal.overflow_add-at-2
+overflow_add-at-2 c =
+    let room : c.args.at + 8 ≤ length c.args.plan.now = let a = c.args in
+    let f = c.fits in
+    there a.plan.now a.at 8 f.result f.ensures c.if-not-fits.false in
+    omega (arith, room)
+
+pub bounds-plan-at : goal.bounds-plan-at
+bounds-plan-at c =
+    let room : c.args.at + 8 ≤ length c.args.plan.now = let a = c.args in
+    let f = c.fits in
+    there a.plan.now a.at 8 f.result f.ensures c.if-not-fits.false in
+    omega (arith, room)
+
+pub returns-in_default : goal.returns-in_default
+returns-in_default c =
+    let a = c.args in
+    let x = c.axis_of in
+    step_no_axis a.plan.now a.at x.result x.ensures c.in_default.is
+
+pub overflow_add-at-3 : goal.overflow_add-at-3
+overflow_add-at-3 c =
+    let room : c.args.at + 8 ≤ length c.args.plan.now = let a = c.args in
+    let f = c.fits in
+    there a.plan.now a.at 8 f.result f.ensures c.if-not-fits.false in
+    omega (arith, room)
+
+pub bounds-plan-at-2 : goal.bounds-plan-at-2
+bounds-plan-at-2 c =
+    let room : c.args.at + 8 ≤ length c.args.plan.now = let a = c.args in
+    let f = c.fits in
+    there a.plan.now a.at 8 f.result f.ensures c.if-not-fits.false in
+    omega (arith, room)
+
+pub overflow_add-at-4 : goal.overflow_add-at-4
+overflow_add-at-4 c =
+    let room : c.args.at + 8 ≤ length c.args.plan.now = let a = c.args in
+    let f = c.fits in
+    there a.plan.now a.at 8 f.result f.ensures c.if-not-fits.false in
+    omega (arith, room)
+
+pub word2-requires : goal.word2-requires
+word2-requires c =
+    let room : c.args.at + 8 ≤ length c.args.plan.now = let a = c.args in
+    let f = c.fits in
+    there a.plan.now a.at 8 f.result f.ensures c.if-not-fits.false in
+    omega (arith, room)
+
+pub returns-in_default-test_of : goal.returns-in_default-test_of
+returns-in_default-test_of c =
+    let a = c.args in
+    let x = c.axis_of in
+    let n = c.word2 in
+    let y = c.test_of in
+    step_no_test a.plan.now a.at x.result x.ensures n.result n.ensures.0 y.result y.ensures
+    c.in-Is.axis c.in-Is.is c.in_default-test_of.is
+
+pub returns : goal.returns
+returns c =
+    let a = c.args in
+    let f = c.fits in
+    let w = c.word2-t in
+    let x = c.axis_of in
+    let n = c.word2 in
+    let y = c.test_of in
+    step_sound a.plan.now a.at x.result x.ensures n.result n.ensures.0 y.result y.ensures
+    c.in-Is.axis c.in-Is.is f.result f.ensures c.if-not-fits.false w.result w.ensures.0 c.in-Is-test_of.test c.in-Is-test_of.is
+    c.sound.result c.sound.ensures

@@ -1,0 +1,13 @@
+-- `data_tail` meets its contract: one operator after another.
+use borrow.Author.Rules.{rules}
+use mathlib.Core.Path.{refl}
+use Rattle.writing.specs.Listed.{columns_of, keys_of}
+use Rattle.adding.specs.Ruled.{operator_of}
+use Rattle.meaning.specs.Translation.{tail_d}
+use Rattle.adding.proofs.Adding.{wrote_then}
+use Rattle.rules.proofs.data_tail.Goals as goal
+
+pub returns : goal.returns
+unfolding tail_d operator_of columns_of keys_of
+returns c =
+    record { wrote = wrote_then c.add-p.ensures c.add-q.ensures; table = refl; after = refl }

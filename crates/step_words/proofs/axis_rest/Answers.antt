@@ -1,0 +1,24 @@
+-- `step_words::axis_rest` meets its contract.
+use borrow.Author.Rules.{rules}
+use mathlib.Core.Path.{◌≡◌, refl, sym, ◌∙◌, ap}
+use Rattle.spelling.specs.Answers.{axis_told, axis_place}
+use Rattle.parsing.specs.Reader.{give}
+use Rattle.spelling.proofs.Answering.{passed, stopped, on, off, word_reads}
+use Rattle.step_words.proofs.axis_rest.Goals as goal
+
+pub returns-in-Past : goal.returns-in-Past
+unfolding axis_told axis_place
+returns-in-Past c =
+    let a = c.args in
+    let done =
+    passed (word_reads _ _ _ _ (λ i. (c.shared_slice_known-2-1.given i).fits) c.word.ensures)
+    c.in-Past.is in
+    on (λ done. give a.axis) done (record { means = refl; inside = done.inside })
+
+pub returns-in-Stuck : goal.returns-in-Stuck
+unfolding axis_told axis_place
+returns-in-Stuck c =
+    let a = c.args in
+    off (λ done. give a.axis)
+    (stopped (word_reads _ _ _ _ (λ i. (c.shared_slice_known-2-1.given i).fits) c.word.ensures)
+    c.in-Stuck.is)

@@ -1,0 +1,9 @@
+-- `select` meets its contract.
+use Rattle.meaning.specs.Written.{operator_bytes}
+use borrow.Author.Rules.{rules}
+use Rattle.writing.proofs.select.Goals as goal
+
+pub returns : goal.returns
+unfolding operator_bytes
+returns c =
+    c.with_byte.ensures
