@@ -3,7 +3,7 @@
 --     suits_worked        a task that suits reads columns only
 --     suits_up            .. suits further up, too
 --     made_laid           a task makes of a row what it made before rows were laid behind
---     settling_rest       the tasks other than RF's never fail
+--     settling_rest, settling_other   the tasks other than RF's never fail
 --     settled_all         a task that fails on no row gives rows
 --     fails_some          .. that fails on some row fails
 use Prim.Native.Nat.{ℕ, ◌+◌, ◌≤◌}
@@ -15,6 +15,7 @@ use denote.Enum.Declared.{tag_of}
 use types.Run.{OneOf, miss}
 use lib.IntN.{ℤ}
 use lib.ListN.{length}
+use Rattle.codes.specs.declared.Function.{Function}
 use Rattle.laws.specs.Lists.{any, all}
 use Rattle.laws.specs.Rows.{row, laid}
 use Rattle.laws.proofs.Rows.{row_laid, rows_at_laid}
@@ -63,6 +64,17 @@ settling_rest c r (Minus s) h = refl
 settling_rest c r (Select k) h = refl
 settling_rest c r (Apply f k d) h = absurd (miss (0 ∷ 1 ∷ 2 ∷ 3 ∷ []) 4 tt h)
 settling_rest c r (Value k) h = absurd (miss (0 ∷ 1 ∷ 2 ∷ 3 ∷ []) 5 tt h)
+
+pub settling_other :
+    (c : Catalogue) (r : Row) (task : Task) → ((f : Function) (k d : ℕ) → task ≡ Apply f k d → ⊥)
+    → ((k : ℕ) → task ≡ Value k → ⊥) → true ≡ settling c task r
+unfolding settling
+settling_other c r (Attach z) g h = refl
+settling_other c r (Project n k) g h = refl
+settling_other c r (Minus s) g h = refl
+settling_other c r (Select k) g h = refl
+settling_other c r (Apply f k d) g h = absurd (g f k d refl)
+settling_other c r (Value k) g h = absurd (h k refl)
 
 pub suits_worked : (plan : List ℕ) (top w : ℕ) (task : Task) → Suits plan top w task → Worked w task
 unfolding Suits Worked

@@ -1,0 +1,34 @@
+-- `judging::truth_group` meets its contract: it fails where the group's truth does.
+use mathlib.Core.Path.{refl, sym, ap, ◌∙◌}
+use native.Mathlib.Omega.{arith}
+use mir.Syntax.{w64}
+use Rattle.cells.proofs.Bits.{read_back}
+use Rattle.items.specs.Answers.{judged}
+use Rattle.tables.specs.Layout.{Inside}
+use Rattle.members.proofs.Members.{pair_is, owes_given, owes_failed}
+use borrow.Author.Rules.{rules}
+use Rattle.judging.proofs.truth_group.Goals as goal
+
+pub group_truth-judged-requires : goal.group_truth-judged-requires
+unfolding Inside
+group_truth-judged-requires c =
+    (omega arith, c.requires.width_value, omega arith)
+
+pub returns-in_default : goal.returns-in_default
+unfolding judged
+returns-in_default c =
+    owes_failed _ _ _ _ _ _ _ refl (sym c.group_truth-judged.ensures
+    ∙ ap judged c.in_default.is)
+
+pub cell_at-x-requires : goal.cell_at-x-requires
+unfolding Inside
+cell_at-x-requires c =
+    (omega arith, omega arith, omega arith)
+
+pub returns : goal.returns
+unfolding judged
+returns c =
+    owes_given _ _ _ _ _ _ _ _ _ (sym c.group_truth-judged.ensures
+    ∙ ap judged c.in-Is.is)
+    (pair_is _ _ _ _ _ _ _ _ _ (read_back w64 c.cell_at-x.type_inv ∙ c.cell_at-x.ensures)
+    (read_back w64 c.truth_cell.type_inv ∙ c.truth_cell.ensures) c.pair.ensures)
