@@ -179,3 +179,12 @@ none_filled (Ran.BadPlan p) h = refl
 none_filled (Ran.BadCatalogue p) h = refl
 none_filled (Ran.Full p) h = refl
 none_filled (Ran.Fails p) h = refl
+
+-- .. as the last arm of a match has it
+pub not_filled : (r : Ran) → ((s n f : ℕ) → r ≡ Ran.Tables s n f → ⊥) → 0 ≡ filled_by r
+unfolding filled_by
+not_filled (Ran.Tables s n f) h = absurd (h s n f refl)
+not_filled (Ran.BadPlan p) h = refl
+not_filled (Ran.BadCatalogue p) h = refl
+not_filled (Ran.Full p) h = refl
+not_filled (Ran.Fails p) h = refl

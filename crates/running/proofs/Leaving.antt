@@ -11,7 +11,7 @@ use mathlib.Core.List.{List, [], ◌∷◌}
 use native.Mathlib.Omega.{arith}
 use mathlib.Core.Bool.{Bool}
 use denote.Enum.Declared.{tag_of}
-use types.Run.{OneOf, miss}
+use types.Run.{OneOf, miss, hit}
 use lib.IntN.{ℤ}
 use lib.ListN.{length}
 use Rattle.laws.specs.Attempt.{Attempt, reads}
@@ -43,6 +43,12 @@ use Rattle.laying.specs.Goes.{Goes}
 use Rattle.laying.specs.contracts.Turned.{the_type}
 use Rattle.running.proofs.Going.{Going, as_many, turn_fails, turn_full, turn_more, going_end, last_stands}
 use Rattle.running.proofs.Going.{some_table, last_table_lem}
+
+-- what is not the end of more tables is a refusal
+pub not_on : (t : Turned) → ((more : Top) → t ≡ On more → ⊥) → OneOf (1 ∷ 2 ∷ []) (tag_of the_type t)
+not_on (On more) h = absurd (h more refl)
+not_on Full h = hit (1 ∷ 2 ∷ []) 1 tt
+not_on Fails h = hit (1 ∷ 2 ∷ []) 2 tt
 
 -- the lent marks stay as many
 pub ready_kept :

@@ -55,7 +55,7 @@ fn ended(part: PartRead) -> OperandRead
 }
 
 // A list inside a part. measure: left * 32
-#[cycle(choice_inner_list_more_operand_path_side_sides_single_turn_two_whole)]
+#[cycle(text)]
 fn list(
     text: &[u8],
     query: &mut [u8],
@@ -87,7 +87,7 @@ fn list(
 }
 
 // A Single inside a part. measure: left * 32
-#[cycle(choice_inner_list_more_operand_path_side_sides_single_turn_two_whole)]
+#[cycle(text)]
 fn inner(
     text: &[u8],
     query: &mut [u8],
@@ -110,7 +110,7 @@ fn inner(
 }
 
 // Two parts, the first up to `return` or `else`. measure: left * 32 + 1
-#[cycle(choice_inner_list_more_operand_path_side_sides_single_turn_two_whole)]
+#[cycle(text)]
 fn two(
     text: &[u8],
     query: &mut [u8],
@@ -135,7 +135,7 @@ fn two(
 }
 
 // The parts of `if`. measure: left * 32 + 2
-#[cycle(choice_inner_list_more_operand_path_side_sides_single_turn_two_whole)]
+#[cycle(text)]
 fn choice(
     text: &[u8],
     query: &mut [u8],
@@ -170,7 +170,7 @@ fn choice(
 }
 
 // An operand. measure: left * 32 + 2
-#[cycle(choice_inner_list_more_operand_path_side_sides_single_turn_two_whole)]
+#[cycle(text)]
 fn operand(
     text: &[u8],
     query: &mut [u8],
@@ -210,7 +210,7 @@ fn operand(
 }
 
 // A path. measure: left * 32 + 3
-#[cycle(choice_inner_list_more_operand_path_side_sides_single_turn_two_whole)]
+#[cycle(text)]
 fn path(
     text: &[u8],
     query: &mut [u8],
@@ -237,7 +237,7 @@ fn path(
 }
 
 // One side of a chain's operator. measure: left * 32 + 5 * (4 - level) + 1
-#[cycle(choice_inner_list_more_operand_path_side_sides_single_turn_two_whole)]
+#[cycle(text)]
 fn side(
     text: &[u8],
     query: &mut [u8],
@@ -295,7 +295,7 @@ fn side(
 }
 
 // One turn of a chain: its operator's record goes before what stands from `start` on. measure: side's and 1
-#[cycle(choice_inner_list_more_operand_path_side_sides_single_turn_two_whole)]
+#[cycle(text)]
 fn turn(
     text: &[u8],
     query: &mut [u8],
@@ -331,7 +331,7 @@ fn turn(
 }
 
 // A chain behind its first side. measure: side's and 2
-#[cycle(choice_inner_list_more_operand_path_side_sides_single_turn_two_whole)]
+#[cycle(text)]
 fn more(
     text: &[u8],
     query: &mut [u8],
@@ -376,7 +376,7 @@ fn more(
 }
 
 // A whole chain. measure: side's and 3
-#[cycle(choice_inner_list_more_operand_path_side_sides_single_turn_two_whole)]
+#[cycle(text)]
 fn whole(
     text: &[u8],
     query: &mut [u8],
@@ -409,7 +409,7 @@ fn whole(
 }
 
 // A comparison: at most one. measure: side's of Sides and 4
-#[cycle(choice_inner_list_more_operand_path_side_sides_single_turn_two_whole)]
+#[cycle(text)]
 fn sides(
     text: &[u8],
     query: &mut [u8],
@@ -459,7 +459,7 @@ fn sides(
 }
 
 // A Single. measure: left * 32 + 20
-#[cycle(choice_inner_list_more_operand_path_side_sides_single_turn_two_whole)]
+#[cycle(text)]
 fn single(
     text: &[u8],
     query: &mut [u8],

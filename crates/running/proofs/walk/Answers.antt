@@ -1,0 +1,114 @@
+-- `walk` meets its contract. The invariant: what is left of the plan, on the tables that stand, gives what the whole
+-- gives, and what is lent stays as long. The measure is how many tables more there may be.
+use Prim.Native.Nat.{◌-◌}
+use mathlib.Core.Path.{◌≡◌, refl, ◌∙◌}
+use native.Mathlib.Omega.{arith}
+use lib.ListN.{length}
+use Rattle.meaning.specs.Catalogue.{catalogue_of}
+use Rattle.meaning.specs.World.{world_of}
+use borrow.Author.Rules.{rules}
+use Rattle.cells.specs.Bytes.{Bytes}
+use Rattle.running.specs.Leaving.{operators_of}
+use Rattle.running.proofs.Going.{Going, going_start}
+use Rattle.running.proofs.Leaving.{never_unread, read_sound, under_512, not_on, turned_walks, turned_on, turned_counts}
+use Rattle.running.proofs.Leaving.{ready_kept, some, end_walks}
+use Rattle.running.proofs.walk.Goals as goal
+
+pub loop-at-init : goal.loop-at-init
+loop-at-init c =
+    (going_start _ _ _ _ _ _ c.requires.accepted_plan.0 c.requires.accepted_plan.1, refl, refl, refl, refl, refl)
+
+pub returns-in_default : goal.returns-in_default
+returns-in_default c =
+    absurd
+    (never_unread _ _ _ _ _ _ _ _ _ _ c.loop-at.invariant.0 c.loop-at-test.true _ c.read.ensures
+    c.in_default.is)
+
+pub lay-turned-requires : goal.lay-turned-requires
+lay-turned-requires c =
+    let bytes : Bytes c.args.plan.now = λ i. (c.type_inv.plan i).fits in
+    let g = c.loop-at.invariant.0 in record {
+      listed_tables = (
+        g.listed,
+        read_sound _ _ _ _ _ _ _ _ _ _ g c.loop-at-test.true _ c.read.ensures bytes _ c.in-Sound.is,
+      );
+      tables_bound = (
+        under_512 _ _ _ _ _ _ _ _ _ _ g c.loop-at-test.true _ c.read.ensures bytes _ c.in-Sound.is,
+        g.fits,
+        omega (arith, g.long, c.requires.accepted_plan.2),
+        c.requires.accepted_plan.3,
+      );
+      in_bounds = (
+        omega (arith, c.loop-at.invariant.2, c.requires.in_bounds.0),
+        omega (arith, c.loop-at.invariant.3, c.requires.in_bounds.1),
+        ready_kept _ _ _ _ _ _ c.requires.in_bounds.2 c.loop-at.invariant.4 c.loop-at.invariant.5,
+      );
+    }
+
+pub returns-in_default-turned : goal.returns-in_default-turned
+returns-in_default-turned c =
+    let bytes : Bytes c.args.plan.now = λ i. (c.type_inv.plan i).fits in
+    let g = c.loop-at.invariant.0 in
+    turned_walks _ _ _ _ _ _ _ _ _ _ g c.loop-at-test.true _ c.read.ensures bytes _
+    c.in-Sound.is _ _ _ _
+    (not_on _ c.in_default-turned.not-On) c.refused.ensures
+    c.lay-turned.ensures
+
+pub loop-at-smaller : goal.loop-at-smaller
+loop-at-smaller c =
+    let bytes : Bytes c.args.plan.now = λ i. (c.type_inv.plan i).fits in
+    let g = c.loop-at.invariant.0 in
+    let more =
+    turned_counts _ _ _ _ _ _ _ _ _ _ g c.loop-at-test.true _ c.read.ensures bytes _
+    c.in-Sound.is _ _ _ _
+    c.in-On.is c.lay-turned.ensures in
+    omega (
+      arith,
+      more,
+      under_512 _ _ _ _ _ _ _ _ _ _ g c.loop-at-test.true _ c.read.ensures bytes _ c.in-Sound.is,
+    )
+
+pub loop-at-preserved : goal.loop-at-preserved
+loop-at-preserved c =
+    let bytes : Bytes c.args.plan.now = λ i. (c.type_inv.plan i).fits in
+    let g = c.loop-at.invariant.0 in (
+      turned_on _ _ _ _ _ _ _ _ _ _ g c.loop-at-test.true _ c.read.ensures bytes _
+          c.in-Sound.is _ _ _ _
+          (omega (arith, g.long, c.requires.accepted_plan.2)) c.in-On.is c.lay-turned.ensures,
+      omega arith,
+      omega arith,
+      omega arith,
+      omega arith,
+      omega arith,
+    )
+
+pub overflow_sub-tables : goal.overflow_sub-tables
+overflow_sub-tables c =
+    omega (
+      arith,
+      some _ _ _ _ _ _ _ _ _ _ c.loop-at.invariant.0 (omega (arith, c.loop-at-test.false))
+          c.requires.accepted_plan.0,
+    )
+
+pub stand-last-requires : goal.stand-last-requires
+stand-last-requires c =
+    let g = c.loop-at.invariant.0 in
+    omega (
+      arith,
+      some _ _ _ _ _ _ _ _ _ _ c.loop-at.invariant.0 (omega (arith, c.loop-at-test.false))
+          c.requires.accepted_plan.0,
+      g.listed.few,
+      g.listed.long,
+    )
+
+pub returns : goal.returns
+returns c =
+    rw c.stand-last.ensures
+    (end_walks _ _ _ _ _ _ _ _ _ _ c.loop-at.invariant.0 (omega (arith, c.loop-at-test.false))
+    c.requires.accepted_plan.0 _
+    (omega (
+      arith,
+      some _ _ _ _ _ _ _ _ _ _ c.loop-at.invariant.0 (omega (arith, c.loop-at-test.false))
+          c.requires.accepted_plan.0,
+    ))
+    c.requires.accepted_plan.2)
