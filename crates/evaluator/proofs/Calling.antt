@@ -9,7 +9,7 @@ use mathlib.Core.Path.{◌≡◌, refl, sym, ◌∙◌, ap, subst}
 use mathlib.Core.List.{List, [], ◌∷◌}
 use native.Mathlib.Omega.{arith}
 use denote.Enum.Declared.{tag_of}
-use types.Run.{OneOf, miss}
+use types.Run.{OneOf, hit, miss}
 use lib.IntN.{ℤ, pos}
 use lib.ListN.{length, take, replicate}
 use Rattle.laws.specs.Rows.{row, padded}
@@ -63,6 +63,12 @@ called_refused o lent k p before after r e a z =
 abbrev catalogued : List ℕ → ℕ → Read → Reading (Work Standing)
 catalogued doc lent r =
     reading (catalogue_read doc) (λ c. reads (evaluate (world_of c) (room lent) (λ v. []) r.tree))
+
+pub not_records : (c : Checked) → ((n : ℕ) → c ≡ Checked.Records n → ⊥) → OneOf (1 ∷ 2 ∷ 3 ∷ []) (tag_of query-type c)
+not_records (Checked.Records n) h = absurd (h n refl)
+not_records (Checked.Unsound p) h = hit (1 ∷ 2 ∷ 3 ∷ []) 1 tt
+not_records (Checked.Excess p) h = hit (1 ∷ 2 ∷ 3 ∷ []) 2 tt
+not_records (Checked.Unbound p) h = hit (1 ∷ 2 ∷ 3 ∷ []) 3 tt
 
 refusing_answer :
     (c : Checked) → OneOf (1 ∷ 2 ∷ 3 ∷ []) (tag_of query-type c) → answered (refusing c) ≡ Decoded.answered c

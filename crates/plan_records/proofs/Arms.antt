@@ -6,10 +6,10 @@
 --     mark_cut, mark_gap, mark_none    no operator where the mark is cut, or is none of the fourteen
 use Prim.Native.Nat.{ℕ, ◌+◌, ◌≤◌, ◌<◌}
 use mathlib.Core.Path.{◌≡◌, refl, sym, ◌∙◌, ap, subst}
-use mathlib.Core.Bool.{Bool, true, false, cond, ◌&&◌}
+use mathlib.Core.Bool.{Bool, true, false, not, cond, ◌&&◌}
 use mathlib.Core.List.{List, [], ◌∷◌}
 use native.Mathlib.Omega.{arith}
-use borrow.Author.Tests.{le-leb, lt-leb, ne_eqb}
+use borrow.Author.Tests.{not-true, not-false, le-leb, lt-leb, ne_eqb}
 use lib.Dec.{eqb, leb}
 use lib.IntN.{ℤ}
 use lib.ListN.{length}
@@ -25,6 +25,7 @@ use Rattle.meaning.specs.Plan as Plan
 use Rattle.meaning.specs.Plan.{Op, field, plain_in, attach_at, project_at, number_at, function_at, step_at}
 use Rattle.meaning.specs.Plan.{operator_at, mark_rt, mark_ra, mark_rp, mark_ru, mark_rd, mark_rs, mark_rj, mark_rn}
 use Rattle.meaning.specs.Plan.{mark_rf, mark_rc, mark_re, mark_rk, mark_rx, mark_ro}
+use Rattle.cells.proofs.Cut.{fits_cut}
 use Rattle.plan_records.specs.declared.Operator.{Operator}
 use Rattle.plan_records.specs.declared.Operator.TheVariants as Operator
 use Rattle.plan_records.specs.declared.Reading.{Reading}
@@ -58,32 +59,32 @@ module _ (lo hi n : ℕ) where
 -- RA
 
 module _ (bs : List ℕ) (at : ℕ) (z : ℤ) (e : z ≡ int8 bs (at + 4)) (b : Bool) (f : b ≡ plain_in (held z)) where
-  pub attach_bad : b ≡ false → Means bs Unsound (Arms.attach bs at)
+  pub attach_bad : not b ≡ true → Means bs Unsound (Arms.attach bs at)
   unfolding Arms.attach attach_at provided
-  attach_bad h = bad_reads bs at 12 _ (rw (← e, ← f, h))
+  attach_bad h = bad_reads bs at 12 _ (rw (← e, ← f, not-true b h))
 
   pub attach_sound :
-      (t : Bool) → t ≡ fits bs at 12 → t ≡ true → b ≡ true → (w : ℕ) → w ≡ word bs (at + 2) 2 →
+      (t : Bool) → t ≡ fits bs at 12 → not t ≡ false → not b ≡ false → (w : ℕ) → w ≡ word bs (at + 2) 2 →
       (r : Reading) → r ≡ Sound (record { operator = Operator.Attach w z; next = at + 12 }) →
       Means bs r (Arms.attach bs at)
   unfolding Arms.attach attach_at provided operator_of ColumnsStand
   attach_sound t p q h w k r s =
-      sound_reads bs at 12 t p _ r (Operator.Attach w z) q s tt (rw (← e, ← f, h, k))
+      sound_reads bs at 12 t p _ r (Operator.Attach w z) q s tt (rw (← e, ← f, not-false b h, k))
 
 -- RP and RN: n columns, or n keys
 
 module _ (bs : List ℕ) (at : ℕ) (t : Bool) where
-  pub project_short : t ≡ fits bs at 5 → t ≡ false → Means bs Unsound (Arms.project bs at)
+  pub project_short : t ≡ fits bs at 5 → not t ≡ true → Means bs Unsound (Arms.project bs at)
   unfolding Arms.project
   project_short p h = cut_before bs at 5 t p _ _ (omega arith) h
 
-  pub number_short : t ≡ fits bs at 6 → t ≡ false → Means bs Unsound (Arms.number bs at)
+  pub number_short : t ≡ fits bs at 6 → not t ≡ true → Means bs Unsound (Arms.number bs at)
   unfolding Arms.number
   number_short p h = cut_before bs at 6 t p _ _ (omega arith) h
 
 module _ (bs : List ℕ) (at n : ℕ) where
   module _ (e : n ≡ field bs at 4) where
-    pub project_cut : (t : Bool) → t ≡ fits bs at (5 + n) → t ≡ false → Means bs Unsound (Arms.project bs at)
+    pub project_cut : (t : Bool) → t ≡ fits bs at (5 + n) → not t ≡ true → Means bs Unsound (Arms.project bs at)
     unfolding Arms.project
     project_cut t p h = rw (← e) (cut_reads bs at (5 + n) t p _ h)
 
@@ -92,7 +93,7 @@ module _ (bs : List ℕ) (at n : ℕ) where
     project_bad h = rw (← e) (bad_reads bs at (5 + n) _ (rw h))
 
     pub project_sound :
-        (t : Bool) → t ≡ fits bs at (5 + n) → t ≡ true → leb 1 n && leb n 6 ≡ true →
+        (t : Bool) → t ≡ fits bs at (5 + n) → not t ≡ false → leb 1 n && leb n 6 ≡ true →
         (w : ℕ) → w ≡ word bs (at + 2) 2 →
         (r : Reading) → r ≡ Sound (record { operator = Operator.Project w n (at + 5); next = at + (5 + n) }) →
         Means bs r (Arms.project bs at)
@@ -102,7 +103,7 @@ module _ (bs : List ℕ) (at n : ℕ) where
         rw (← e) (sound_reads bs at (5 + n) t p _ r (Operator.Project w n (at + 5)) q s l (rw (h, k)))
 
   module _ (e : n ≡ field bs at 5) where
-    pub number_cut : (t : Bool) → t ≡ fits bs at (6 + n) → t ≡ false → Means bs Unsound (Arms.number bs at)
+    pub number_cut : (t : Bool) → t ≡ fits bs at (6 + n) → not t ≡ true → Means bs Unsound (Arms.number bs at)
     unfolding Arms.number
     number_cut t p h = rw (← e) (cut_reads bs at (6 + n) t p _ h)
 
@@ -111,7 +112,7 @@ module _ (bs : List ℕ) (at n : ℕ) where
     number_bad h = rw (← e) (bad_reads bs at (6 + n) _ (rw h))
 
     pub number_sound :
-        (t : Bool) → t ≡ fits bs at (6 + n) → t ≡ true → leb 1 n && leb n 2 ≡ true →
+        (t : Bool) → t ≡ fits bs at (6 + n) → not t ≡ false → leb 1 n && leb n 2 ≡ true →
         (w : ℕ) → w ≡ word bs (at + 2) 2 → (p : ℕ) → p ≡ field bs at 4 →
         (r : Reading) → r ≡ Sound (record { operator = Operator.Number w p n (at + 6); next = at + (6 + n) }) →
         Means bs r (Arms.number bs at)
@@ -128,7 +129,7 @@ module _ (bs : List ℕ) (at : ℕ) (x : FunctionField) (e : function_field x �
   apply_bad p = bad_reads bs at 7 _ (rw (sym e ∙ ap function_field p))
 
   pub apply_sound :
-      (t : Bool) → t ≡ fits bs at 7 → t ≡ true →
+      (t : Bool) → t ≡ fits bs at 7 → not t ≡ false →
       (w c d : ℕ) → w ≡ word bs (at + 2) 2 → c ≡ field bs at 5 → d ≡ field bs at 6 →
       (f : Function) → x ≡ FunctionField.Is f →
       (r : Reading) → r ≡ Sound (record { operator = Operator.Apply w f c d; next = at + 7 }) →
@@ -157,9 +158,9 @@ function_cut bs at f n l e = go (eqb f 7) _ _ (shorter bs at n 6 _ l e) (shorter
     go false a b p q = q
 
 pub function_short :
-    (bs : List ℕ) (at : ℕ) (t : Bool) → t ≡ fits bs at 5 → t ≡ false → Means bs Unsound (Arms.function bs at)
+    (bs : List ℕ) (at : ℕ) (t : Bool) → t ≡ fits bs at 5 → not t ≡ true → Means bs Unsound (Arms.function bs at)
 unfolding Arms.function
-function_short bs at t e h = none_reads bs at _ (function_cut bs at _ 5 (omega arith) (sym e ∙ h))
+function_short bs at t e h = none_reads bs at _ (function_cut bs at _ 5 (omega arith) (fits_cut t bs at 5 e h))
 
 -- RX
 
@@ -179,7 +180,7 @@ module _ (bs : List ℕ) (at : ℕ) (x : AxisField) (e : axis_field x ≡ axis_o
     step_no_test q = bad_reads bs at 8 _ (rw (sym e ∙ ap axis_field p, sym test_is ∙ ap test_field q))
 
     pub step_sound :
-        (t : Bool) → t ≡ fits bs at 8 → t ≡ true → (w : ℕ) → w ≡ word bs (at + 2) 2 →
+        (t : Bool) → t ≡ fits bs at 8 → not t ≡ false → (w : ℕ) → w ≡ word bs (at + 2) 2 →
         (test : Test) → y ≡ TestField.Is test →
         (r : Reading) → r ≡ Sound (record { operator = Operator.Step w axis test; next = at + 8 }) →
         Means bs r (Arms.step bs at)
@@ -196,7 +197,7 @@ module _ (bs : List ℕ) (at k : ℕ) (e : k ≡ field bs at 4) where
   root_bad h = bad_reads bs at 5 _ (rw (sym e ∙ h))
 
   pub root_sound :
-      (t : Bool) → t ≡ fits bs at 5 → t ≡ true → (k ≡ 0 → ⊥) → k < 256 → (w : ℕ) → w ≡ word bs (at + 2) 2 →
+      (t : Bool) → t ≡ fits bs at 5 → not t ≡ false → (k ≡ 0 → ⊥) → k < 256 → (w : ℕ) → w ≡ word bs (at + 2) 2 →
       (r : Reading) → r ≡ Sound (record { operator = Operator.Root w k; next = at + 5 }) →
       Means bs r (Arms.root bs at)
   unfolding Arms.root fragment_of attempt provided operator_of ColumnsStand
@@ -235,9 +236,9 @@ module _ (bs : List ℕ) (at : ℕ) where
       (either (eqb mark mark_rx) _ _ (shorter bs at 2 8 _ (omega arith) e)
       (either (eqb mark mark_ro) _ _ (shorter bs at 2 5 _ (omega arith) e) refl)))))))))))))
 
-  pub mark_cut : (t : Bool) → t ≡ fits bs at 2 → t ≡ false → Means bs Unsound (operator_at bs at)
+  pub mark_cut : (t : Bool) → t ≡ fits bs at 2 → not t ≡ true → Means bs Unsound (operator_at bs at)
   unfolding operator_at
-  mark_cut t e h = none_reads bs at _ (operator_cut (word bs at 2) (sym e ∙ h))
+  mark_cut t e h = none_reads bs at _ (operator_cut (word bs at 2) (fits_cut t bs at 2 e h))
 
   operator_none :
       (m : ℕ) →

@@ -2,7 +2,7 @@
 --     there, cut_reads, cut_before, sound_reads     by the test of `fits`: all bytes there; cut; an operator is read
 --     shorter, bad_reads, none_reads     a record that is cut, has a bad field, or has no mark
 use Prim.Native.Nat.{ℕ, ◌+◌, ◌≤◌, ◌<◌}
-use mathlib.Core.Path.{◌≡◌, refl, sym, ap}
+use mathlib.Core.Path.{◌≡◌, refl, sym}
 use mathlib.Core.Bool.{Bool, true, false, not}
 use mathlib.Core.List.{List}
 use native.Mathlib.Omega.{arith}
@@ -42,18 +42,18 @@ module _ (bs : List ℕ) (at : ℕ) where
       go false = refl
 
   module _ (n : ℕ) (t : Bool) (e : t ≡ fits bs at n) where
-    pub there : t ≡ true → at + n ≤ length bs
-    there h = fits_room t bs at n e (ap not h)
+    pub there : not t ≡ false → at + n ≤ length bs
+    there h = fits_room t bs at n e h
 
-    pub cut_reads : (a : Attempt Op) → t ≡ false → Means bs Unsound (sized bs at n a)
-    cut_reads a h = none_reads (sized bs at n a) (cut_bytes n a (fits_cut t bs at n e (ap not h)))
+    pub cut_reads : (a : Attempt Op) → not t ≡ true → Means bs Unsound (sized bs at n a)
+    cut_reads a h = none_reads (sized bs at n a) (cut_bytes n a (fits_cut t bs at n e h))
 
-    pub cut_before : (m : ℕ) (a : Attempt Op) → n ≤ m → t ≡ false → Means bs Unsound (sized bs at m a)
-    cut_before m a l h = none_reads (sized bs at m a) (shorter n m a l (fits_cut t bs at n e (ap not h)))
+    pub cut_before : (m : ℕ) (a : Attempt Op) → n ≤ m → not t ≡ true → Means bs Unsound (sized bs at m a)
+    cut_before m a l h = none_reads (sized bs at m a) (shorter n m a l (fits_cut t bs at n e h))
 
     pub sound_reads :
-        (a : Attempt Op) (r : Reading) (o : Operator) → t ≡ true →
+        (a : Attempt Op) (r : Reading) (o : Operator) → not t ≡ false →
         r ≡ Sound (record { operator = o; next = at + n }) → ColumnsStand bs o → a ≡ gives (operator_of bs o) →
         Means bs r (sized bs at n a)
     unfolding reading_of ReadingStands sized provided attempt
-    sound_reads a r o h p s q = rw (p, fits_there t bs at n e (ap not h), q) (record { means = refl; stands = s })
+    sound_reads a r o h p s q = rw (p, fits_there t bs at n e h, q) (record { means = refl; stands = s })

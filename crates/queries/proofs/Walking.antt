@@ -16,6 +16,8 @@ use borrow.Author.Tests.{eq-eqb, ne_eqb, lt-ltb, le-ltb}
 use lib.Dec.{ltb, eqb}
 use lib.ListN.{length, get_or, set, replicate, length-set, get_or-replicate}
 use lib.Seq.{get_or-set_same, get_or-set_other}
+use denote.Enum.Declared.{tag_of}
+use types.Run.{OneOf, miss}
 use Rattle.cells.specs.Bytes.{word}
 use Rattle.laws.specs.Lists.{any}
 use Rattle.laws.specs.Attempt.{gives, Reading, refuses, reads, reading, unless, refusing}
@@ -37,6 +39,7 @@ use Rattle.queries.specs.Walk.{Passing, Walker, passes, two, three, steps, walk,
 use Rattle.query_records.proofs.Outcomes.{refusing_apart}
 use Rattle.query_records.proofs.Fields.{record-sound}
 use Rattle.query_records.specs.Fields.{Ranged}
+use Rattle.queries.specs.contracts.Checking.{the_type}
 
 -- Readings
 
@@ -229,12 +232,12 @@ module _ (bs : List ℕ) (at : ℕ) (r : Found) (e : reading_of r ≡ record_of 
 -- What follows a walk
 
 module _ (w : Checking) (a : Passing) (f : ℕ × ℕ → Passing) (e : walked w ≡ a) where
-  pub walk_stopped : ((next n : ℕ) → w ≡ Checking.Passed next n → ⊥) → walked w ≡ reading a f
+  pub walk_stopped : OneOf (1 ∷ 2 ∷ 3 ∷ []) (tag_of the_type w) → walked w ≡ reading a f
   unfolding walked reading
   walk_stopped h = go w h ∙ ap (λ (x : Passing). reading x f) e
     where
-      go : (w : Checking) → ((next n : ℕ) → w ≡ Checking.Passed next n → ⊥) → walked w ≡ reading (walked w) f
-      go (Checking.Passed next n) h = absurd (h next n refl)
+      go : (w : Checking) → OneOf (1 ∷ 2 ∷ 3 ∷ []) (tag_of the_type w) → walked w ≡ reading (walked w) f
+      go (Checking.Passed next n) h = absurd (miss (1 ∷ 2 ∷ 3 ∷ []) 0 tt h)
       go (Checking.Unsound p) h = refl
       go (Checking.Excess p) h = refl
       go (Checking.Unbound p) h = refl
@@ -270,13 +273,13 @@ module _ (bs : List ℕ) (w : Checking) (e : walked w ≡ walk 32 bs (replicate 
       read_ended (length bs) (read 32 bs [] 0 0)
       ∙ ap (ended (length bs)) (sym (walk_read 32 bs (replicate 8 false) [] 0 0 flags_none) ∙ sym e)
 
-  pub call_stopped : ((next n : ℕ) → w ≡ Checking.Passed next n → ⊥) → answer_of (walked w) ≡ query_call bs
+  pub call_stopped : OneOf (1 ∷ 2 ∷ 3 ∷ []) (tag_of the_type w) → answer_of (walked w) ≡ query_call bs
   unfolding walked answer_of ended
   call_stopped h = go w h ∙ sym call_ended
     where
-      go : (w : Checking) → ((next n : ℕ) → w ≡ Checking.Passed next n → ⊥) →
+      go : (w : Checking) → OneOf (1 ∷ 2 ∷ 3 ∷ []) (tag_of the_type w) →
           answer_of (walked w) ≡ ended (length bs) (walked w)
-      go (Checking.Passed next n) h = absurd (h next n refl)
+      go (Checking.Passed next n) h = absurd (miss (1 ∷ 2 ∷ 3 ∷ []) 0 tt h)
       go (Checking.Unsound p) h = refl
       go (Checking.Excess p) h = refl
       go (Checking.Unbound p) h = refl

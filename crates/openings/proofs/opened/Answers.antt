@@ -9,14 +9,14 @@ use Rattle.openings.proofs.opened.Goals as goal
 
 pub fixed-requires : goal.fixed-requires
 fixed-requires c =
-    (passed (word_reads _ _ _ _ (λ i. (c.shared_slice_known-2-1.given i).fits) c.word.ensures)
+    (passed (word_reads _ _ _ _ (λ i. (c.type_inv.rest i).fits) c.word.ensures)
     c.in-Past.is
     ).inside
 
 pub returns-in-Past : goal.returns-in-Past
 returns-in-Past c =
     on (λ done. read_word word open_sign)
-    (passed (word_reads _ _ _ _ (λ i. (c.shared_slice_known-2-1.given i).fits) c.word.ensures)
+    (passed (word_reads _ _ _ _ (λ i. (c.type_inv.rest i).fits) c.word.ensures)
     c.in-Past.is)
     c.fixed.ensures
 
@@ -24,5 +24,5 @@ pub returns-in-Stuck : goal.returns-in-Stuck
 unfolding fixed_told fixed_place
 returns-in-Stuck c =
     off (λ done. read_word word open_sign)
-    (stopped (word_reads _ _ _ _ (λ i. (c.shared_slice_known-2-1.given i).fits) c.word.ensures)
+    (stopped (word_reads _ _ _ _ (λ i. (c.type_inv.rest i).fits) c.word.ensures)
     c.in-Stuck.is)

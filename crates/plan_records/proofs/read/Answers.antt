@@ -1,4 +1,6 @@
 -- `read` meets its contract: the mark picks the arm, each arm's function means that arm of the definition.
+use mathlib.Core.Bool.{not}
+use mathlib.Core.Path.{ap}
 use Prim.Native.Nat.{◌+◌, ◌≤◌}
 use native.Mathlib.Omega.{arith}
 use borrow.Author.Rules.{rules}
@@ -15,13 +17,13 @@ pub returns-then-not-fits : goal.returns-then-not-fits
 returns-then-not-fits c =
     let a = c.args in
     let f = c.fits in
-    mark_cut a.plan.now a.at f.result f.ensures c.if-not-fits.true
+    mark_cut a.plan.now a.at f.result f.ensures (ap not c.if-not-fits.true)
 
 pub word2-mark-requires : goal.word2-mark-requires
 word2-mark-requires c =
     let room : c.args.at + 2 ≤ length c.args.plan.now = let a = c.args in
     let f = c.fits in
-    there a.plan.now a.at 2 f.result f.ensures c.if-not-fits.false in
+    there a.plan.now a.at 2 f.result f.ensures (ap not c.if-not-fits.false) in
     omega (arith, room)
 
 pub returns-in-21076 : goal.returns-in-21076

@@ -1,6 +1,7 @@
 -- The query check's recursion follows `walk`: the depth left falls from a record to its operands.
 use mathlib.Core.Path.{◌≡◌, ◌∙◌}
 use native.Mathlib.Omega.{arith}
+use borrow.Author.Rules.{rules}
 use Rattle.query_records.specs.declared.Operands.TheVariants.{None, Variable, One, Two, Binding, Three}
 use Rattle.queries.specs.Answers.{walked}
 use Rattle.queries.specs.Walk.{steps, two, three}
@@ -66,7 +67,7 @@ operand-returns-in-Three t c =
 pub three_operands-returns-in_default : goal.three_operands-returns-in_default
 unfolding three
 three_operands-returns-in_default t c =
-    walk_stopped c.operand-first.result _ _ c.operand-first.ensures c.in_default.not-Passed
+    walk_stopped c.operand-first.result _ _ c.operand-first.ensures (search rules)
 
 pub three_operands-returns : goal.three_operands-returns
 unfolding three
@@ -76,7 +77,7 @@ three_operands-returns t c =
 pub two_operands-returns-in_default : goal.two_operands-returns-in_default
 unfolding two
 two_operands-returns-in_default t c =
-    walk_stopped c.operand-first.result _ _ c.operand-first.ensures c.in_default.not-Passed
+    walk_stopped c.operand-first.result _ _ c.operand-first.ensures (search rules)
 
 pub two_operands-returns : goal.two_operands-returns
 unfolding two

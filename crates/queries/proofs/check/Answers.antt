@@ -9,7 +9,7 @@ returns-in_default c =
     let w = c.operand-whole in
     c.concluded.ensures
     ∙ call_stopped c.args.query.now w.result w.ensures
-    c.in_default.not-Passed
+    (search rules)
 
 pub returns-then-next-query : goal.returns-then-next-query
 returns-then-next-query c =

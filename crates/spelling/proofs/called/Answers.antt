@@ -8,14 +8,14 @@ use Rattle.spelling.proofs.called.Goals as goal
 
 pub brackets-requires : goal.brackets-requires
 brackets-requires c =
-    (passed (word_reads _ _ _ _ (λ i. (c.shared_slice_known-2-1.given i).fits) c.word.ensures)
+    (passed (word_reads _ _ _ _ (λ i. (c.type_inv.rest i).fits) c.word.ensures)
     c.in-Past.is
     ).inside
 
 pub returns-in-Past : goal.returns-in-Past
 returns-in-Past c =
     on (λ done. brackets tt)
-    (passed (word_reads _ _ _ _ (λ i. (c.shared_slice_known-2-1.given i).fits) c.word.ensures)
+    (passed (word_reads _ _ _ _ (λ i. (c.type_inv.rest i).fits) c.word.ensures)
     c.in-Past.is)
     c.brackets.ensures
 
@@ -23,5 +23,5 @@ pub returns-in-Stuck : goal.returns-in-Stuck
 unfolding fixed_told fixed_place
 returns-in-Stuck c =
     off (λ done. brackets tt)
-    (stopped (word_reads _ _ _ _ (λ i. (c.shared_slice_known-2-1.given i).fits) c.word.ensures)
+    (stopped (word_reads _ _ _ _ (λ i. (c.type_inv.rest i).fits) c.word.ensures)
     c.in-Stuck.is)

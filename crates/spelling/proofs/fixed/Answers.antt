@@ -15,7 +15,7 @@ returns-in-Past c =
     let a = c.args in
     entry_reads (kind_is a.before) (letters a.rest.now) _
     (on (λ done. letters a.rest.now) (passed c.enter.ensures c.in-Past.is)
-    (word_reads _ _ _ _ (λ i. (c.shared_slice_known-2-1.given i).fits) c.word.ensures))
+    (word_reads _ _ _ _ (λ i. (c.type_inv.rest i).fits) c.word.ensures))
 
 pub returns-in-Stuck : goal.returns-in-Stuck
 unfolding fixed_told fixed_place

@@ -1,4 +1,6 @@
 -- `function` meets its contract: cut, a bad field, or its fields as they stand.
+use mathlib.Core.Bool.{not}
+use mathlib.Core.Path.{ap}
 use Prim.Native.Nat.{◌+◌, ◌≤◌}
 use native.Mathlib.Omega.{arith}
 use borrow.Author.Rules.{rules}
@@ -11,20 +13,20 @@ pub returns-then-not-fits : goal.returns-then-not-fits
 returns-then-not-fits c =
     let a = c.args in
     let f = c.fits in
-    function_short a.plan.now a.at f.result f.ensures c.if-not-fits.true
+    function_short a.plan.now a.at f.result f.ensures (ap not c.if-not-fits.true)
 
 pub overflow_add-at : goal.overflow_add-at
 overflow_add-at c =
     let room : c.args.at + 5 ≤ length c.args.plan.now = let a = c.args in
     let f = c.fits in
-    there a.plan.now a.at 5 f.result f.ensures c.if-not-fits.false in
+    there a.plan.now a.at 5 f.result f.ensures (ap not c.if-not-fits.false) in
     omega (arith, room)
 
 pub byte-number-requires : goal.byte-number-requires
 byte-number-requires c =
     let room : c.args.at + 5 ≤ length c.args.plan.now = let a = c.args in
     let f = c.fits in
-    there a.plan.now a.at 5 f.result f.ensures c.if-not-fits.false in
+    there a.plan.now a.at 5 f.result f.ensures (ap not c.if-not-fits.false) in
     omega (arith, room)
 
 pub returns-in-7 : goal.returns-in-7

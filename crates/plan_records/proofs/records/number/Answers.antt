@@ -1,4 +1,6 @@
 -- `number` meets its contract: cut, a bad field, or its fields as they stand.
+use mathlib.Core.Bool.{not}
+use mathlib.Core.Path.{ap}
 use Prim.Native.Nat.{◌+◌, ◌≤◌}
 use native.Mathlib.Omega.{arith}
 use borrow.Author.Rules.{rules}
@@ -12,20 +14,20 @@ pub returns-then-not-fits : goal.returns-then-not-fits
 returns-then-not-fits c =
     let a = c.args in
     let f = c.fits in
-    number_short a.plan.now a.at f.result f.ensures c.if-not-fits.true
+    number_short a.plan.now a.at f.result f.ensures (ap not c.if-not-fits.true)
 
 pub overflow_add-at : goal.overflow_add-at
 overflow_add-at c =
     let room : c.args.at + 6 ≤ length c.args.plan.now = let a = c.args in
     let f = c.fits in
-    there a.plan.now a.at 6 f.result f.ensures c.if-not-fits.false in
+    there a.plan.now a.at 6 f.result f.ensures (ap not c.if-not-fits.false) in
     omega (arith, room)
 
 pub byte-n-requires : goal.byte-n-requires
 byte-n-requires c =
     let room : c.args.at + 6 ≤ length c.args.plan.now = let a = c.args in
     let f = c.fits in
-    there a.plan.now a.at 6 f.result f.ensures c.if-not-fits.false in
+    there a.plan.now a.at 6 f.result f.ensures (ap not c.if-not-fits.false) in
     omega (arith, room)
 
 pub overflow_add-size : goal.overflow_add-size
@@ -37,14 +39,14 @@ returns-then-not-fits-2 c =
     let a = c.args in
     let n = c.byte-n in
     let f = c.fits-2 in
-    number_cut a.plan.now a.at n.result n.ensures.0 f.result f.ensures c.if-not-fits-2.true
+    number_cut a.plan.now a.at n.result n.ensures.0 f.result f.ensures (ap not c.if-not-fits-2.true)
 
 pub overflow_add-next : goal.overflow_add-next
 overflow_add-next c =
     let whole : c.args.at + (6 + c.byte-n.result) ≤ length c.args.plan.now = let a = c.args in
     let n = c.byte-n in
     let f = c.fits-2 in
-    there a.plan.now a.at (6 + n.result) f.result f.ensures c.if-not-fits-2.false in
+    there a.plan.now a.at (6 + n.result) f.result f.ensures (ap not c.if-not-fits-2.false) in
     omega (arith, whole)
 
 pub overflow_add-at-2 : goal.overflow_add-at-2
@@ -52,7 +54,7 @@ overflow_add-at-2 c =
     let whole : c.args.at + (6 + c.byte-n.result) ≤ length c.args.plan.now = let a = c.args in
     let n = c.byte-n in
     let f = c.fits-2 in
-    there a.plan.now a.at (6 + n.result) f.result f.ensures c.if-not-fits-2.false in
+    there a.plan.now a.at (6 + n.result) f.result f.ensures (ap not c.if-not-fits-2.false) in
     omega (arith, whole)
 
 pub word2-t-requires : goal.word2-t-requires
@@ -60,7 +62,7 @@ word2-t-requires c =
     let whole : c.args.at + (6 + c.byte-n.result) ≤ length c.args.plan.now = let a = c.args in
     let n = c.byte-n in
     let f = c.fits-2 in
-    there a.plan.now a.at (6 + n.result) f.result f.ensures c.if-not-fits-2.false in
+    there a.plan.now a.at (6 + n.result) f.result f.ensures (ap not c.if-not-fits-2.false) in
     omega (arith, whole)
 
 pub overflow_add-at-3 : goal.overflow_add-at-3
@@ -68,7 +70,7 @@ overflow_add-at-3 c =
     let whole : c.args.at + (6 + c.byte-n.result) ≤ length c.args.plan.now = let a = c.args in
     let n = c.byte-n in
     let f = c.fits-2 in
-    there a.plan.now a.at (6 + n.result) f.result f.ensures c.if-not-fits-2.false in
+    there a.plan.now a.at (6 + n.result) f.result f.ensures (ap not c.if-not-fits-2.false) in
     omega (arith, whole)
 
 pub byte-p-requires : goal.byte-p-requires
@@ -76,7 +78,7 @@ byte-p-requires c =
     let whole : c.args.at + (6 + c.byte-n.result) ≤ length c.args.plan.now = let a = c.args in
     let n = c.byte-n in
     let f = c.fits-2 in
-    there a.plan.now a.at (6 + n.result) f.result f.ensures c.if-not-fits-2.false in
+    there a.plan.now a.at (6 + n.result) f.result f.ensures (ap not c.if-not-fits-2.false) in
     omega (arith, whole)
 
 pub overflow_add-from : goal.overflow_add-from
@@ -84,7 +86,7 @@ overflow_add-from c =
     let whole : c.args.at + (6 + c.byte-n.result) ≤ length c.args.plan.now = let a = c.args in
     let n = c.byte-n in
     let f = c.fits-2 in
-    there a.plan.now a.at (6 + n.result) f.result f.ensures c.if-not-fits-2.false in
+    there a.plan.now a.at (6 + n.result) f.result f.ensures (ap not c.if-not-fits-2.false) in
     omega (arith, whole)
 
 pub returns-in-1-to-2 : goal.returns-in-1-to-2
@@ -94,7 +96,7 @@ returns-in-1-to-2 c =
     let f = c.fits-2 in
     let w = c.word2-t in
     let p = c.byte-p in
-    number_sound a.plan.now a.at n.result n.ensures.0 f.result f.ensures c.if-not-fits-2.false
+    number_sound a.plan.now a.at n.result n.ensures.0 f.result f.ensures (ap not c.if-not-fits-2.false)
     (in_range_lem 1 2 n.result (omega arith) (omega arith)) w.result w.ensures.0 p.result
     p.ensures.0 c.sound.result c.sound.ensures
 

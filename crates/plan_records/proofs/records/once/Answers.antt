@@ -1,4 +1,6 @@
 -- `once` meets its contract: cut, or its fields as they stand.
+use mathlib.Core.Bool.{not}
+use mathlib.Core.Path.{ap}
 use Prim.Native.Nat.{◌+◌, ◌≤◌}
 use native.Mathlib.Omega.{arith}
 use borrow.Author.Rules.{rules}
@@ -14,41 +16,41 @@ unfolding Arms.once
 returns-then-not-fits c =
     let a = c.args in
     let f = c.fits in
-    cut_reads a.plan.now a.at 5 f.result f.ensures _ c.if-not-fits.true
+    cut_reads a.plan.now a.at 5 f.result f.ensures _ (ap not c.if-not-fits.true)
 
 pub overflow_add-next : goal.overflow_add-next
 overflow_add-next c =
     let room : c.args.at + 5 ≤ length c.args.plan.now = let a = c.args in
     let f = c.fits in
-    there a.plan.now a.at 5 f.result f.ensures c.if-not-fits.false in
+    there a.plan.now a.at 5 f.result f.ensures (ap not c.if-not-fits.false) in
     omega (arith, room)
 
 pub overflow_add-at : goal.overflow_add-at
 overflow_add-at c =
     let room : c.args.at + 5 ≤ length c.args.plan.now = let a = c.args in
     let f = c.fits in
-    there a.plan.now a.at 5 f.result f.ensures c.if-not-fits.false in
+    there a.plan.now a.at 5 f.result f.ensures (ap not c.if-not-fits.false) in
     omega (arith, room)
 
 pub word2-t-requires : goal.word2-t-requires
 word2-t-requires c =
     let room : c.args.at + 5 ≤ length c.args.plan.now = let a = c.args in
     let f = c.fits in
-    there a.plan.now a.at 5 f.result f.ensures c.if-not-fits.false in
+    there a.plan.now a.at 5 f.result f.ensures (ap not c.if-not-fits.false) in
     omega (arith, room)
 
 pub overflow_add-at-2 : goal.overflow_add-at-2
 overflow_add-at-2 c =
     let room : c.args.at + 5 ≤ length c.args.plan.now = let a = c.args in
     let f = c.fits in
-    there a.plan.now a.at 5 f.result f.ensures c.if-not-fits.false in
+    there a.plan.now a.at 5 f.result f.ensures (ap not c.if-not-fits.false) in
     omega (arith, room)
 
 pub byte-c-requires : goal.byte-c-requires
 byte-c-requires c =
     let room : c.args.at + 5 ≤ length c.args.plan.now = let a = c.args in
     let f = c.fits in
-    there a.plan.now a.at 5 f.result f.ensures c.if-not-fits.false in
+    there a.plan.now a.at 5 f.result f.ensures (ap not c.if-not-fits.false) in
     omega (arith, room)
 
 pub returns : goal.returns
@@ -60,4 +62,4 @@ returns c =
     let x = c.byte-c in
     sound_reads a.plan.now a.at 5 f.result f.ensures _ c.sound.result
     (Operator.Once w.result x.result)
-    c.if-not-fits.false c.sound.ensures tt (rw (← w.ensures.0, ← x.ensures.0))
+    (ap not c.if-not-fits.false) c.sound.ensures tt (rw (← w.ensures.0, ← x.ensures.0))

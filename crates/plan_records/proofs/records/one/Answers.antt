@@ -1,9 +1,10 @@
 -- `one` meets its contract: cut, or its fields as they stand.
+use mathlib.Core.Bool.{not}
 use Prim.Native.Nat.{◌+◌, ◌≤◌}
 use native.Mathlib.Omega.{arith}
 use borrow.Author.Rules.{rules}
 use lib.ListN.{length}
-use mathlib.Core.Path.{refl}
+use mathlib.Core.Path.{refl, ap}
 use Rattle.plan_records.specs.declared.Operator.TheVariants as Operator
 use Rattle.plan_records.specs.Arms as Arms
 use Rattle.plan_records.specs.Decoded.{operator_of, ColumnsStand}
@@ -15,13 +16,13 @@ unfolding Arms.one
 returns-then-not-fits c =
     let a = c.args in
     let f = c.fits in
-    cut_reads a.plan.now a.at 2 f.result f.ensures _ c.if-not-fits.true
+    cut_reads a.plan.now a.at 2 f.result f.ensures _ (ap not c.if-not-fits.true)
 
 pub overflow_add-next : goal.overflow_add-next
 overflow_add-next c =
     let room : c.args.at + 2 ≤ length c.args.plan.now = let a = c.args in
     let f = c.fits in
-    there a.plan.now a.at 2 f.result f.ensures c.if-not-fits.false in
+    there a.plan.now a.at 2 f.result f.ensures (ap not c.if-not-fits.false) in
     omega (arith, room)
 
 pub returns : goal.returns
@@ -30,4 +31,4 @@ returns c =
     let a = c.args in
     let f = c.fits in
     sound_reads a.plan.now a.at 2 f.result f.ensures _ c.sound.result Operator.One
-    c.if-not-fits.false c.sound.ensures tt refl
+    (ap not c.if-not-fits.false) c.sound.ensures tt refl

@@ -1,6 +1,7 @@
 -- `root` meets its contract: cut, a bad field, or its fields as they stand.
+use mathlib.Core.Bool.{not}
 use Prim.Native.Nat.{◌+◌, ◌≤◌}
-use mathlib.Core.Path.{refl}
+use mathlib.Core.Path.{refl, ap}
 use native.Mathlib.Omega.{arith}
 use borrow.Author.Rules.{rules}
 use lib.ListN.{length}
@@ -15,41 +16,41 @@ unfolding Arms.root
 returns-then-not-fits c =
     let a = c.args in
     let f = c.fits in
-    cut_reads a.plan.now a.at 5 f.result f.ensures _ c.if-not-fits.true
+    cut_reads a.plan.now a.at 5 f.result f.ensures _ (ap not c.if-not-fits.true)
 
 pub overflow_add-next : goal.overflow_add-next
 overflow_add-next c =
     let room : c.args.at + 5 ≤ length c.args.plan.now = let a = c.args in
     let f = c.fits in
-    there a.plan.now a.at 5 f.result f.ensures c.if-not-fits.false in
+    there a.plan.now a.at 5 f.result f.ensures (ap not c.if-not-fits.false) in
     omega (arith, room)
 
 pub overflow_add-at : goal.overflow_add-at
 overflow_add-at c =
     let room : c.args.at + 5 ≤ length c.args.plan.now = let a = c.args in
     let f = c.fits in
-    there a.plan.now a.at 5 f.result f.ensures c.if-not-fits.false in
+    there a.plan.now a.at 5 f.result f.ensures (ap not c.if-not-fits.false) in
     omega (arith, room)
 
 pub word2-t-requires : goal.word2-t-requires
 word2-t-requires c =
     let room : c.args.at + 5 ≤ length c.args.plan.now = let a = c.args in
     let f = c.fits in
-    there a.plan.now a.at 5 f.result f.ensures c.if-not-fits.false in
+    there a.plan.now a.at 5 f.result f.ensures (ap not c.if-not-fits.false) in
     omega (arith, room)
 
 pub overflow_add-byte : goal.overflow_add-byte
 overflow_add-byte c =
     let room : c.args.at + 5 ≤ length c.args.plan.now = let a = c.args in
     let f = c.fits in
-    there a.plan.now a.at 5 f.result f.ensures c.if-not-fits.false in
+    there a.plan.now a.at 5 f.result f.ensures (ap not c.if-not-fits.false) in
     omega (arith, room)
 
 pub bounds-plan-at : goal.bounds-plan-at
 bounds-plan-at c =
     let room : c.args.at + 5 ≤ length c.args.plan.now = let a = c.args in
     let f = c.fits in
-    there a.plan.now a.at 5 f.result f.ensures c.if-not-fits.false in
+    there a.plan.now a.at 5 f.result f.ensures (ap not c.if-not-fits.false) in
     omega (arith, room)
 
 pub overflow_cast-k : goal.overflow_cast-k
@@ -67,6 +68,6 @@ returns-in-1-to-255 c =
     let a = c.args in
     let f = c.fits in
     let w = c.word2-t in
-    root_sound a.plan.now a.at (byte_at a.plan.now (a.at + 4)) refl f.result f.ensures c.if-not-fits.false
+    root_sound a.plan.now a.at (byte_at a.plan.now (a.at + 4)) refl f.result f.ensures (ap not c.if-not-fits.false)
     (λ h. omega arith) (omega (arith, c.type_inv.plan (a.at + 4)))
     w.result w.ensures.0 c.sound.result c.sound.ensures

@@ -1,4 +1,6 @@
 -- `step` meets its contract: cut, a bad field, or its fields as they stand.
+use mathlib.Core.Bool.{not}
+use mathlib.Core.Path.{ap}
 use Prim.Native.Nat.{◌+◌, ◌≤◌}
 use native.Mathlib.Omega.{arith}
 use borrow.Author.Rules.{rules}
@@ -13,41 +15,41 @@ unfolding Arms.step
 returns-then-not-fits c =
     let a = c.args in
     let f = c.fits in
-    cut_reads a.plan.now a.at 8 f.result f.ensures _ c.if-not-fits.true
+    cut_reads a.plan.now a.at 8 f.result f.ensures _ (ap not c.if-not-fits.true)
 
 pub overflow_add-next : goal.overflow_add-next
 overflow_add-next c =
     let room : c.args.at + 8 ≤ length c.args.plan.now = let a = c.args in
     let f = c.fits in
-    there a.plan.now a.at 8 f.result f.ensures c.if-not-fits.false in
+    there a.plan.now a.at 8 f.result f.ensures (ap not c.if-not-fits.false) in
     omega (arith, room)
 
 pub overflow_add-at : goal.overflow_add-at
 overflow_add-at c =
     let room : c.args.at + 8 ≤ length c.args.plan.now = let a = c.args in
     let f = c.fits in
-    there a.plan.now a.at 8 f.result f.ensures c.if-not-fits.false in
+    there a.plan.now a.at 8 f.result f.ensures (ap not c.if-not-fits.false) in
     omega (arith, room)
 
 pub word2-t-requires : goal.word2-t-requires
 word2-t-requires c =
     let room : c.args.at + 8 ≤ length c.args.plan.now = let a = c.args in
     let f = c.fits in
-    there a.plan.now a.at 8 f.result f.ensures c.if-not-fits.false in
+    there a.plan.now a.at 8 f.result f.ensures (ap not c.if-not-fits.false) in
     omega (arith, room)
 
 pub overflow_add-at-2 : goal.overflow_add-at-2
 overflow_add-at-2 c =
     let room : c.args.at + 8 ≤ length c.args.plan.now = let a = c.args in
     let f = c.fits in
-    there a.plan.now a.at 8 f.result f.ensures c.if-not-fits.false in
+    there a.plan.now a.at 8 f.result f.ensures (ap not c.if-not-fits.false) in
     omega (arith, room)
 
 pub bounds-plan-at : goal.bounds-plan-at
 bounds-plan-at c =
     let room : c.args.at + 8 ≤ length c.args.plan.now = let a = c.args in
     let f = c.fits in
-    there a.plan.now a.at 8 f.result f.ensures c.if-not-fits.false in
+    there a.plan.now a.at 8 f.result f.ensures (ap not c.if-not-fits.false) in
     omega (arith, room)
 
 pub returns-in_default : goal.returns-in_default
@@ -60,28 +62,28 @@ pub overflow_add-at-3 : goal.overflow_add-at-3
 overflow_add-at-3 c =
     let room : c.args.at + 8 ≤ length c.args.plan.now = let a = c.args in
     let f = c.fits in
-    there a.plan.now a.at 8 f.result f.ensures c.if-not-fits.false in
+    there a.plan.now a.at 8 f.result f.ensures (ap not c.if-not-fits.false) in
     omega (arith, room)
 
 pub bounds-plan-at-2 : goal.bounds-plan-at-2
 bounds-plan-at-2 c =
     let room : c.args.at + 8 ≤ length c.args.plan.now = let a = c.args in
     let f = c.fits in
-    there a.plan.now a.at 8 f.result f.ensures c.if-not-fits.false in
+    there a.plan.now a.at 8 f.result f.ensures (ap not c.if-not-fits.false) in
     omega (arith, room)
 
 pub overflow_add-at-4 : goal.overflow_add-at-4
 overflow_add-at-4 c =
     let room : c.args.at + 8 ≤ length c.args.plan.now = let a = c.args in
     let f = c.fits in
-    there a.plan.now a.at 8 f.result f.ensures c.if-not-fits.false in
+    there a.plan.now a.at 8 f.result f.ensures (ap not c.if-not-fits.false) in
     omega (arith, room)
 
 pub word2-requires : goal.word2-requires
 word2-requires c =
     let room : c.args.at + 8 ≤ length c.args.plan.now = let a = c.args in
     let f = c.fits in
-    there a.plan.now a.at 8 f.result f.ensures c.if-not-fits.false in
+    there a.plan.now a.at 8 f.result f.ensures (ap not c.if-not-fits.false) in
     omega (arith, room)
 
 pub returns-in_default-test_of : goal.returns-in_default-test_of
@@ -102,5 +104,5 @@ returns c =
     let n = c.word2 in
     let y = c.test_of in
     step_sound a.plan.now a.at x.result x.ensures n.result n.ensures.0 y.result y.ensures
-    c.in-Is.axis c.in-Is.is f.result f.ensures c.if-not-fits.false w.result w.ensures.0 c.in-Is-test_of.test c.in-Is-test_of.is
+    c.in-Is.axis c.in-Is.is f.result f.ensures (ap not c.if-not-fits.false) w.result w.ensures.0 c.in-Is-test_of.test c.in-Is-test_of.is
     c.sound.result c.sound.ensures

@@ -1,4 +1,6 @@
 -- `truths` meets its contract: cut, or its fields as they stand.
+use mathlib.Core.Bool.{not}
+use mathlib.Core.Path.{ap}
 use Prim.Native.Nat.{◌+◌, ◌≤◌}
 use native.Mathlib.Omega.{arith}
 use borrow.Author.Rules.{rules}
@@ -14,27 +16,27 @@ unfolding Arms.truths
 returns-then-not-fits c =
     let a = c.args in
     let f = c.fits in
-    cut_reads a.plan.now a.at 4 f.result f.ensures _ c.if-not-fits.true
+    cut_reads a.plan.now a.at 4 f.result f.ensures _ (ap not c.if-not-fits.true)
 
 pub overflow_add-next : goal.overflow_add-next
 overflow_add-next c =
     let room : c.args.at + 4 ≤ length c.args.plan.now = let a = c.args in
     let f = c.fits in
-    there a.plan.now a.at 4 f.result f.ensures c.if-not-fits.false in
+    there a.plan.now a.at 4 f.result f.ensures (ap not c.if-not-fits.false) in
     omega (arith, room)
 
 pub overflow_add-at : goal.overflow_add-at
 overflow_add-at c =
     let room : c.args.at + 4 ≤ length c.args.plan.now = let a = c.args in
     let f = c.fits in
-    there a.plan.now a.at 4 f.result f.ensures c.if-not-fits.false in
+    there a.plan.now a.at 4 f.result f.ensures (ap not c.if-not-fits.false) in
     omega (arith, room)
 
 pub word2-t-requires : goal.word2-t-requires
 word2-t-requires c =
     let room : c.args.at + 4 ≤ length c.args.plan.now = let a = c.args in
     let f = c.fits in
-    there a.plan.now a.at 4 f.result f.ensures c.if-not-fits.false in
+    there a.plan.now a.at 4 f.result f.ensures (ap not c.if-not-fits.false) in
     omega (arith, room)
 
 pub returns : goal.returns
@@ -44,4 +46,4 @@ returns c =
     let f = c.fits in
     let w = c.word2-t in
     sound_reads a.plan.now a.at 4 f.result f.ensures _ c.sound.result (Operator.Truths w.result)
-    c.if-not-fits.false c.sound.ensures tt (rw (← w.ensures.0))
+    (ap not c.if-not-fits.false) c.sound.ensures tt (rw (← w.ensures.0))
