@@ -10,7 +10,7 @@ use mathlib.Core.Path.{◌≡◌, refl, sym, ap, ◌∙◌, subst}
 use mathlib.Core.List.{List, [], ◌∷◌}
 use native.Mathlib.Omega.{arith}
 use denote.Enum.Declared.{tag_of}
-use types.Run.{OneOf, miss}
+use types.Run.{OneOf, miss, hit}
 use lib.IntN.{ℤ}
 use lib.ListN.{length, get_or, take, drop}
 use lib.Seq.{take_at, take_all}
@@ -37,6 +37,21 @@ use Rattle.answers.specs.Second.{second, Within}
 -- the items of an answer's last table
 abbrev pub items_of : List ℤ → Answer → List ℤ
 items_of cells a = column (rows_at cells (value_of 0 a) (value_of 1 a) 3) 2
+
+-- what is no table is a refusal, and what is not refusal 6 is another case
+pub not_tables : (ran : Ran) → ((s r f : ℕ) → ran ≡ Tables s r f → ⊥) → OneOf (1 ∷ 2 ∷ 3 ∷ 4 ∷ []) (tag_of the_type ran)
+not_tables (Tables s r f) h = absurd (h s r f refl)
+not_tables (BadPlan p) h = hit (1 ∷ 2 ∷ 3 ∷ 4 ∷ []) 1 tt
+not_tables (BadCatalogue p) h = hit (1 ∷ 2 ∷ 3 ∷ 4 ∷ []) 2 tt
+not_tables (Full p) h = hit (1 ∷ 2 ∷ 3 ∷ 4 ∷ []) 3 tt
+not_tables (Fails p) h = hit (1 ∷ 2 ∷ 3 ∷ 4 ∷ []) 4 tt
+
+pub not_full : (ran : Ran) → ((p : ℕ) → ran ≡ Full p → ⊥) → OneOf (0 ∷ 1 ∷ 2 ∷ 4 ∷ []) (tag_of the_type ran)
+not_full (Tables s r f) h = hit (0 ∷ 1 ∷ 2 ∷ 4 ∷ []) 0 tt
+not_full (BadPlan p) h = hit (0 ∷ 1 ∷ 2 ∷ 4 ∷ []) 1 tt
+not_full (BadCatalogue p) h = hit (0 ∷ 1 ∷ 2 ∷ 4 ∷ []) 2 tt
+not_full (Full p) h = absurd (h p refl)
+not_full (Fails p) h = hit (0 ∷ 1 ∷ 2 ∷ 4 ∷ []) 4 tt
 
 pub kept_none : (ran : Ran) (cells ys : List ℤ) → OneOf (1 ∷ 2 ∷ 3 ∷ 4 ∷ []) (tag_of the_type ran)
     → ys ≡ laid ys 0 (items_of cells (answered ran))

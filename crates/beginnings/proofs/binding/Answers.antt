@@ -9,7 +9,7 @@ use Rattle.beginnings.proofs.binding.Goals as goal
 pub binding_sign-requires : goal.binding_sign-requires
 binding_sign-requires c = (
   (passed (word_reads _ _ _ _
-      (λ i. (c.shared_slice_known-2-1.given i).fits)
+      (λ i. (c.type_inv.rest i).fits)
       c.word.ensures) c.in-Past.is).inside,
   c.requires.1,
   c.requires.2,
@@ -21,7 +21,7 @@ returns-in-Past c =
     let a = c.args in
     begins_on (λ done. binding_sign rd d e (binding_record a.binder) a.behind.now (kind_is a.kind)) _
     (passed (word_reads _ _ _ _
-    (λ i. (c.shared_slice_known-2-1.given i).fits)
+    (λ i. (c.type_inv.rest i).fits)
     c.word.ensures)
     c.in-Past.is)
     (c.binding_sign.ensures rd d e)
@@ -31,5 +31,5 @@ returns-in-Stuck c =
     λ rd d e.
     let a = c.args in
     begins_off (λ done. binding_sign rd d e (binding_record a.binder) a.behind.now (kind_is a.kind))
-    (stopped (word_reads _ _ _ _ (λ i. (c.shared_slice_known-2-1.given i).fits)
+    (stopped (word_reads _ _ _ _ (λ i. (c.type_inv.rest i).fits)
     c.word.ensures) c.in-Stuck.is)

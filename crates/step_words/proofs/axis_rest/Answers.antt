@@ -11,7 +11,7 @@ unfolding axis_told axis_place
 returns-in-Past c =
     let a = c.args in
     let done =
-    passed (word_reads _ _ _ _ (λ i. (c.shared_slice_known-2-1.given i).fits) c.word.ensures)
+    passed (word_reads _ _ _ _ (λ i. (c.type_inv.rest i).fits) c.word.ensures)
     c.in-Past.is in
     on (λ done. give a.axis) done (record { means = refl; inside = done.inside })
 
@@ -20,5 +20,5 @@ unfolding axis_told axis_place
 returns-in-Stuck c =
     let a = c.args in
     off (λ done. give a.axis)
-    (stopped (word_reads _ _ _ _ (λ i. (c.shared_slice_known-2-1.given i).fits) c.word.ensures)
+    (stopped (word_reads _ _ _ _ (λ i. (c.type_inv.rest i).fits) c.word.ensures)
     c.in-Stuck.is)
