@@ -26,7 +26,6 @@ use Rattle.grammar.specs.Grammar.{expr}
 use Rattle.grammar.specs.Written.{text_of, lent_text, write_outcome, write_call}
 use Rattle.grammar.proofs.Lengths.{written_long}
 use Rattle.queries.specs.declared.Checked.{Checked}
-use Rattle.queries.specs.declared.Checked.TheVariants as Checked
 use Rattle.queries.specs.Answers as Queries
 use Rattle.query_walks.specs.Parse.{parse}
 use Rattle.query_walks.proofs.Accepting.{query_accepted}

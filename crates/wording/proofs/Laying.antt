@@ -16,7 +16,6 @@ use Rattle.query_records.specs.declared.Record.{Record}
 use Rattle.query_records.specs.declared.Record.TheVariants.{Literal, Empty, Root, Variable, Sequence, Let, For, If}
 use Rattle.query_records.specs.declared.Record.TheVariants.{Apply, Count, Data, Step}
 use Rattle.query_records.specs.declared.Operands.{Operands}
-use Rattle.query_records.specs.declared.Operands.TheVariants as Operands
 use Rattle.query_records.specs.Decoded.{record_of, operands_of}
 use Rattle.query_walks.specs.Parse.{Parsed, lone, pair, triple, trees}
 use Rattle.query_walks.proofs.Parsing.{lone_gives, pair_gives, triple_gives}

@@ -21,11 +21,9 @@ use Rattle.grammar.specs.Words.{else_word}
 use Rattle.grammar.specs.Grammar.{Level, expr, single}
 use Rattle.grammar.specs.Written.{looser, opening, closing, enclosed, spaced, then_text, text_of}
 use Rattle.query_records.specs.declared.Reading.{Reading as Found}
-use Rattle.query_records.specs.declared.Reading.TheVariants as Found
 use Rattle.query_records.specs.declared.Decoded.{Decoded}
 use Rattle.query_records.specs.declared.Record.{Record}
 use Rattle.query_records.specs.declared.Operands.{Operands}
-use Rattle.query_records.specs.declared.Operands.TheVariants as Operands
 use Rattle.query_records.specs.Decoded.{Means, record_of, operands_of}
 use Rattle.query_records.proofs.Callers.{found_sound, found_small}
 use Rattle.query_walks.specs.Parse.{Parsed, trees, parse}
