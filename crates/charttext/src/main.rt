@@ -2,24 +2,40 @@
 // whether they agree.
 #![tactic(auto)]
 
-ghost use Rattle.std.specs.Prelude.{◌≤◌, length};
+ghost use Rattle.std.specs.Prelude.{◌≤◌, length, IfOk};
 
-use libc::{STDERR_FILENO, STDOUT_FILENO};
+use std::io::Read;
+use std::rt::Files;
+use std::{fs, io};
+
+// Reads until `space` is full or the file ends, and answers how many bytes it put at the start of `space`.
+fn read_full(file: &mut impl Read, space: &mut [u8]) -> io::Result<usize>
+    ensures { IfOk result (λ n. n ≤ length space.new) }
+{
+    let mut done: usize = 0;
+    while done < space.len() {
+        let n = file.read(&mut space[done..])?;
+        if n == 0 {
+            break;
+        }
+        done += n;
+    }
+    Ok(done)
+}
 
 // Reads a file to the start of `space`, no further than that is long, and answers how many bytes it read. A missing
 // file is empty.
-fn load(path: &[u8], space: &mut [u8]) -> usize
-    ensures { result ≤ length space.new }
+fn load(rt: &impl Files, path: &str, space: &mut [u8]) -> io::Result<usize>
+    ensures { IfOk result (λ n. n ≤ length space.new) }
 {
-    let fd = os::open_read(path);
-    if fd < 0 {
-        return 0;
+    match fs::open(rt, path) {
+        Ok(mut file) => read_full(&mut file, space),
+        Err(_) => Ok(0),
     }
-    io::read_full(fd, space)
 }
 
 // Lends what the reader, the translator and the engines work in, and prints their text.
-fn print(typed: &[u8], doc: &[u8]) {
+fn print(rt: &impl Print, typed: &[u8], doc: &[u8]) -> io::Result<()> {
     let mut query = [0u8; 1024];
     let mut plan = [0u8; 6144];
     let mut work = [0i64; 8192];
@@ -28,21 +44,17 @@ fn print(typed: &[u8], doc: &[u8]) {
     let n = typed_printing::tell(
         typed, doc, &mut query, &mut plan, &mut work, &mut kept, &mut text,
     );
-    io::write_all(STDOUT_FILENO, &text[0..n]);
+    rt.write_all(&text[0..n])
 }
 
 // A text has at most 4,096 bytes. A byte more is lent, so that a longer one is seen and not cut.
-fn main() {
+fn main(rt: HostRuntime) -> io::Result<()> {
     let mut typed = [0u8; 4097];
     let mut doc = [0u8; 20490];
-    let n = load(b"query.xq", &mut typed);
+    let n = load(&rt, "query.xq", &mut typed)?;
     if 4096 < n {
-        io::write_all(
-            STDERR_FILENO,
-            b"charttext: query.xq is longer than 4096 bytes\n",
-        );
-        return;
+        return eprintln!(rt; "charttext: query.xq is longer than 4096 bytes");
     }
-    let m = load(b"doc.bin", &mut doc);
-    print(&typed[0..n], &doc[0..m]);
+    let m = load(&rt, "doc.bin", &mut doc)?;
+    print(&rt, &typed[0..n], &doc[0..m])
 }

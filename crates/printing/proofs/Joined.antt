@@ -13,7 +13,7 @@ use mathlib.Core.Bool.{Bool, true, false, cond}
 use native.Mathlib.Omega.{arith}
 use native.Mathlib.Nat.{sub-zero}
 use denote.Enum.Declared.{tag_of}
-use types.Run.{OneOf, miss}
+use types.Run.{OneOf, miss, hit}
 use lib.IntN.{ℤ}
 use lib.ListN.{length, take}
 use Rattle.laws.specs.Rows.{laid}
@@ -72,6 +72,14 @@ module _ (query plan doc : List ℕ) (l : ℕ) (ra : Answer) (w ys ks zs : List 
   pub items_end : ks ≡ laid ys 0 (run_items (run_call plan doc 8192))
   unfolding run_items
   items_end = cc
+
+-- what is no plan is a refusal
+pub not_plan : (x : Translated) → ((n m : ℕ) → x ≡ Plan n m → ⊥) → OneOf (1 ∷ 2 ∷ 3 ∷ 4 ∷ []) (tag_of the_type x)
+not_plan (Plan n m) h = absurd (h n m refl)
+not_plan (Unsound p) h = hit (1 ∷ 2 ∷ 3 ∷ 4 ∷ []) 1 tt
+not_plan (Excess p) h = hit (1 ∷ 2 ∷ 3 ∷ 4 ∷ []) 2 tt
+not_plan (Unbound p) h = hit (1 ∷ 2 ∷ 3 ∷ 4 ∷ []) 3 tt
+not_plan Longer h = hit (1 ∷ 2 ∷ 3 ∷ 4 ∷ []) 4 tt
 
 any_rest : (x : Translated) → OneOf (1 ∷ 2 ∷ 3 ∷ 4 ∷ []) (tag_of the_type x)
     → (ran ran' : Told) (xs xs' : List ℤ) (evaluated evaluated' : Told) (ys ys' : List ℤ)

@@ -9,7 +9,7 @@ use mathlib.Core.List.{List, [], ◌∷◌, ◌++◌}
 use native.Mathlib.Omega.{arith}
 use borrow.Author.Tests.{lt-ltb, le-ltb, eq-eqb, ne_eqb}
 use denote.Enum.Declared.{tag_of}
-use types.Run.{OneOf, miss}
+use types.Run.{OneOf, miss, hit}
 use lib.ListN.{take}
 use Rattle.cells.specs.Bytes.{bytes_of}
 use Rattle.meaning.specs.Written.{operator_bytes}
@@ -46,6 +46,15 @@ placed_past s e room h = rw (lt-ltb room e h)
 pub placed_within : (s e room : ℕ) → e ≤ room → Cells s e ≡ placed s e room
 unfolding placed
 placed_within s e room h = rw (le-ltb room e h)
+
+-- what is no table is a refusal
+pub not_tables :
+    (ran : Ran) → ((s r e : ℕ) → ran ≡ Tables s r e → ⊥) → OneOf (1 ∷ 2 ∷ 3 ∷ 4 ∷ []) (tag_of the_type ran)
+not_tables (Tables s r e) h = absurd (h s r e refl)
+not_tables (BadPlan p) h = hit (1 ∷ 2 ∷ 3 ∷ 4 ∷ []) 1 tt
+not_tables (BadCatalogue p) h = hit (1 ∷ 2 ∷ 3 ∷ 4 ∷ []) 2 tt
+not_tables (Full p) h = hit (1 ∷ 2 ∷ 3 ∷ 4 ∷ []) 3 tt
+not_tables (Fails p) h = hit (1 ∷ 2 ∷ 3 ∷ 4 ∷ []) 4 tt
 
 pub none_answered : (ran : Ran) (w room : ℕ) → OneOf (1 ∷ 2 ∷ 3 ∷ 4 ∷ []) (tag_of the_type ran)
     → Nothing ≡ place_in (answered ran) w room

@@ -1,56 +1,63 @@
 // The two checks: a line for each case, what the check answers.
 // A case is a byte for the call (1 catalogue, 2 query), then the byte string that the call is given.
-use libc::STDOUT_FILENO;
+use std::io;
+use std::io::Read;
+use std::rt::Files;
 
-fn refused(call: &[u8], number: usize, place: usize) {
-    io::write_all(STDOUT_FILENO, call);
-    cases::refused(number, place);
+fn refused(rt: &impl Print, call: &str, number: usize, place: usize) -> io::Result<()> {
+    rt.print(call)?;
+    cases::refused(rt, number, place)
 }
 
-fn tell_catalogue(doc: &[u8]) {
+fn tell_catalogue(rt: &impl Print, doc: &[u8]) -> io::Result<()> {
     match catalogue::check(doc) {
-        catalogue::Checked::Rows(n) => cases::say(b"catalogue rows ", n),
-        catalogue::Checked::Unsound(place) => refused(b"catalogue ", 4, place),
+        catalogue::Checked::Rows(n) => cases::say(rt, "catalogue rows ", n),
+        catalogue::Checked::Unsound(place) => refused(rt, "catalogue ", 4, place),
     }
 }
 
-fn tell_query(query: &[u8]) {
+fn tell_query(rt: &impl Print, query: &[u8]) -> io::Result<()> {
     match queries::check(query) {
-        queries::Checked::Records(n) => cases::say(b"query records ", n),
-        queries::Checked::Unsound(place) => refused(b"query ", 1, place),
-        queries::Checked::Excess(place) => refused(b"query ", 2, place),
-        queries::Checked::Unbound(place) => refused(b"query ", 3, place),
+        queries::Checked::Records(n) => cases::say(rt, "query records ", n),
+        queries::Checked::Unsound(place) => refused(rt, "query ", 1, place),
+        queries::Checked::Excess(place) => refused(rt, "query ", 2, place),
+        queries::Checked::Unbound(place) => refused(rt, "query ", 3, place),
     }
 }
 
-fn one_case(fd: i32, call: usize, space: &mut [u8]) {
-    let n = cases::load(fd, space);
+fn one_case(
+    rt: &impl Print,
+    file: &mut impl Read,
+    call: usize,
+    space: &mut [u8],
+) -> io::Result<()> {
+    let n = cases::load(file, space)?;
     if call == 1 {
-        tell_catalogue(&space[0..n]);
+        tell_catalogue(rt, &space[0..n])?;
     } else {
-        tell_query(&space[0..n]);
+        tell_query(rt, &space[0..n])?;
     }
-    io::write_all(STDOUT_FILENO, b"\n");
+    println!(rt)
 }
 
 // The cases end where the file does; there are fewer than 30,000.
-fn all_cases(fd: i32, space: &mut [u8]) {
+fn all_cases(rt: &impl Print, file: &mut impl Read, space: &mut [u8]) -> io::Result<()> {
     let mut left: usize = 30000;
     while 0 < left {
-        let call = cases::next_byte(fd);
+        let call = cases::next_byte(file)?;
         if call == 0 {
-            return;
+            return Ok(());
         }
-        one_case(fd, call, space);
+        one_case(rt, file, call, space)?;
         left -= 1;
     }
+    Ok(())
 }
 
-pub fn all() {
-    let fd = cases::opened(b"checks.bin", b"== checks\n");
-    if fd < 0 {
-        return;
-    }
+pub fn all(rt: &(impl Files + Print + Eprint)) -> io::Result<()> {
+    let Some(mut file) = cases::opened(rt, "checks.bin", "== checks\n")? else {
+        return Ok(());
+    };
     let mut space = [0u8; 20490];
-    all_cases(fd, &mut space);
+    all_cases(rt, &mut file, &mut space)
 }

@@ -3,18 +3,29 @@
 
 use engines::Engine;
 use makers::Maker;
+use std::io;
 
 mod checks;
 mod engines;
 mod makers;
 mod texts;
 
-fn main() {
-    checks::all();
-    engines::all(b"evaluations.bin", b"== evaluations\n", Engine::Evaluator);
-    makers::all(b"translations.bin", b"== translations\n", Maker::Translator);
-    engines::all(b"runs.bin", b"== runs\n", Engine::Runner);
-    texts::all();
-    makers::all(b"typed.bin", b"== typed\n", Maker::Reader);
-    makers::all(b"written.bin", b"== written\n", Maker::Writer);
+fn main(rt: HostRuntime) -> io::Result<()> {
+    checks::all(&rt)?;
+    engines::all(
+        &rt,
+        "evaluations.bin",
+        "== evaluations\n",
+        Engine::Evaluator,
+    )?;
+    makers::all(
+        &rt,
+        "translations.bin",
+        "== translations\n",
+        Maker::Translator,
+    )?;
+    engines::all(&rt, "runs.bin", "== runs\n", Engine::Runner)?;
+    texts::all(&rt)?;
+    makers::all(&rt, "typed.bin", "== typed\n", Maker::Reader)?;
+    makers::all(&rt, "written.bin", "== written\n", Maker::Writer)
 }

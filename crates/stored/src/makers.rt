@@ -4,6 +4,9 @@
 ghost use Rattle.std.specs.Prelude.{◌≤◌, ◌<◌, length};
 
 use reader::Typed;
+use std::io;
+use std::io::Read;
+use std::rt::Files;
 use translator::Translated;
 use wording::Written;
 
@@ -14,97 +17,130 @@ pub enum Maker {
     Writer,
 }
 
-fn tell_translated(answer: Translated) {
+fn tell_translated(rt: &impl Print, answer: Translated) -> io::Result<()> {
     match answer {
         Translated::Plan { operators, bytes } => {
-            cases::say(b"operators ", operators);
-            cases::say(b" bytes ", bytes);
+            cases::say(rt, "operators ", operators)?;
+            cases::say(rt, " bytes ", bytes)
         }
-        Translated::Unsound(place) => cases::refused(1, place),
-        Translated::Excess(place) => cases::refused(2, place),
-        Translated::Unbound(place) => cases::refused(3, place),
-        Translated::Longer => cases::refused(8, 0),
+        Translated::Unsound(place) => cases::refused(rt, 1, place),
+        Translated::Excess(place) => cases::refused(rt, 2, place),
+        Translated::Unbound(place) => cases::refused(rt, 3, place),
+        Translated::Longer => cases::refused(rt, 8, 0),
     }
 }
 
-fn tell_typed(answer: Typed) {
+fn tell_typed(rt: &impl Print, answer: Typed) -> io::Result<()> {
     match answer {
         Typed::Records { records, bytes } => {
-            cases::say(b"records ", records);
-            cases::say(b" bytes ", bytes);
+            cases::say(rt, "records ", records)?;
+            cases::say(rt, " bytes ", bytes)
         }
-        Typed::Outside(place) => cases::refused(9, place),
-        Typed::Excess(place) => cases::refused(2, place),
-        Typed::Unbound(place) => cases::refused(3, place),
-        Typed::Longer => cases::refused(8, 0),
+        Typed::Outside(place) => cases::refused(rt, 9, place),
+        Typed::Excess(place) => cases::refused(rt, 2, place),
+        Typed::Unbound(place) => cases::refused(rt, 3, place),
+        Typed::Longer => cases::refused(rt, 8, 0),
     }
 }
 
-fn tell_written(answer: Written) {
+fn tell_written(rt: &impl Print, answer: Written) -> io::Result<()> {
     match answer {
-        Written::Text(bytes) => cases::say(b"text ", bytes),
-        Written::Unsound(place) => cases::refused(1, place),
-        Written::Excess(place) => cases::refused(2, place),
-        Written::Unbound(place) => cases::refused(3, place),
-        Written::Longer => cases::refused(8, 0),
+        Written::Text(bytes) => cases::say(rt, "text ", bytes),
+        Written::Unsound(place) => cases::refused(rt, 1, place),
+        Written::Excess(place) => cases::refused(rt, 2, place),
+        Written::Unbound(place) => cases::refused(rt, 3, place),
+        Written::Longer => cases::refused(rt, 8, 0),
     }
 }
 
 // Calls the maker and prints what it answers.
-fn call(maker: Maker, given: &[u8], made: &mut [u8]) {
+fn call(rt: &impl Print, maker: Maker, given: &[u8], made: &mut [u8]) -> io::Result<()> {
     match maker {
-        Maker::Translator => tell_translated(translator::translate(given, made)),
-        Maker::Reader => tell_typed(reader::read(given, made)),
-        Maker::Writer => tell_written(wording::write(given, made)),
+        Maker::Translator => tell_translated(rt, translator::translate(given, made)),
+        Maker::Reader => tell_typed(rt, reader::read(given, made)),
+        Maker::Writer => tell_written(rt, wording::write(given, made)),
     }
 }
 
-fn one_case(maker: Maker, given: &[u8], made: &mut [u8]) {
+fn one_case(rt: &impl Print, maker: Maker, given: &[u8], made: &mut [u8]) -> io::Result<()> {
     cases::spoil_bytes(made);
-    call(maker, given, made);
-    cases::end(cases::sum_of_bytes(made));
+    call(rt, maker, given, made)?;
+    cases::end(rt, cases::sum_of_bytes(made))
 }
 
 // The next case of a group.
-fn next_case(maker: Maker, fd: i32, given: &[u8], made: &mut [u8]) {
-    let lent = cases::next_number(fd);
+fn next_case(
+    rt: &impl Print,
+    maker: Maker,
+    file: &mut impl Read,
+    given: &[u8],
+    made: &mut [u8],
+) -> io::Result<()> {
+    let lent = cases::next_number(file)?;
     if lent <= made.len() {
-        one_case(maker, given, &mut made[0..lent]);
+        one_case(rt, maker, given, &mut made[0..lent])?;
     }
+    Ok(())
 }
 
-fn each_case(maker: Maker, fd: i32, times: usize, given: &[u8], made: &mut [u8]) {
+fn each_case(
+    rt: &impl Print,
+    maker: Maker,
+    file: &mut impl Read,
+    times: usize,
+    given: &[u8],
+    made: &mut [u8],
+) -> io::Result<()> {
     let mut left = times;
     while 0 < left {
-        next_case(maker, fd, given, made);
+        next_case(rt, maker, file, given, made)?;
         left -= 1;
     }
+    Ok(())
 }
 
-fn one_group(maker: Maker, fd: i32, times: usize, given: &mut [u8], made: &mut [u8]) {
-    let n = cases::load(fd, given);
-    each_case(maker, fd, times, &given[0..n], made);
+fn one_group(
+    rt: &impl Print,
+    maker: Maker,
+    file: &mut impl Read,
+    times: usize,
+    given: &mut [u8],
+    made: &mut [u8],
+) -> io::Result<()> {
+    let n = cases::load(file, given)?;
+    each_case(rt, maker, file, times, &given[0..n], made)
 }
 
 // The groups end where the file does; there are fewer than 10,000.
-fn all_groups(maker: Maker, fd: i32, given: &mut [u8], made: &mut [u8]) {
+fn all_groups(
+    rt: &impl Print,
+    maker: Maker,
+    file: &mut impl Read,
+    given: &mut [u8],
+    made: &mut [u8],
+) -> io::Result<()> {
     let mut left: usize = 10000;
     while 0 < left {
-        let times = cases::next_byte(fd);
+        let times = cases::next_byte(file)?;
         if times == 0 {
-            return;
+            return Ok(());
         }
-        one_group(maker, fd, times, given, made);
+        one_group(rt, maker, file, times, given, made)?;
         left -= 1;
     }
+    Ok(())
 }
 
-pub fn all(path: &[u8], heading: &[u8], maker: Maker) {
-    let fd = cases::opened(path, heading);
-    if fd < 0 {
-        return;
-    }
+pub fn all(
+    rt: &(impl Files + Print + Eprint),
+    path: &str,
+    heading: &str,
+    maker: Maker,
+) -> io::Result<()> {
+    let Some(mut file) = cases::opened(rt, path, heading)? else {
+        return Ok(());
+    };
     let mut given = [0u8; 16384];
     let mut made = [0u8; 7000];
-    all_groups(maker, fd, &mut given, &mut made);
+    all_groups(rt, maker, &mut file, &mut given, &mut made)
 }
