@@ -4,6 +4,7 @@ use Prim.Native.Nat.{◌-◌, ◌≤◌}
 use mathlib.Core.Path.{◌≡◌, refl}
 use native.Mathlib.Omega.{arith}
 use lib.ListN.{length, length-set}
+use borrow.Author.Rules.{rules}
 use mir.Facts.{to_z-of_z}
 use mir.Syntax.{w64}
 use Rattle.laws.specs.Rows.{rows_at, laid}
@@ -58,7 +59,7 @@ pub loop-i-preserved : goal.loop-i-preserved
 loop-i-preserved c = (
   omega arith,
   kept_more _ _ _ (omega arith) _ _ _ _ _ c.loop-i.invariant.1 (omega arith)
-      (to_z-of_z {w = w64} (record { sfits = c.kept-1.given })),
+      (to_z-of_z {w = w64} (record { sfits = search rules })),
   simp length-set c.loop-i.invariant.2,
 )
 

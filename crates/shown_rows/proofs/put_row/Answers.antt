@@ -26,7 +26,7 @@ loop-i-preserved c = (
   omega (arith, c.put_column-end.ensures.1),
   pens_as
       (columns_more c.args.row.now c.loop-i.i _
-      (to_z-of_z {w = w64} (record { sfits = c.put_column-arg-in-loop-i-1.given }))
+      (to_z-of_z {w = w64} (record { sfits = search rules }))
       (omega arith))
       (pens_more c.loop-i.invariant.2 c.put_column-end.ensures.0),
 )

@@ -4,6 +4,7 @@ use Prim.Native.Nat.{ℕ, ◌+◌, ◌-◌, ◌*◌, ◌≤◌}
 use mathlib.Core.Path.{◌≡◌, ap}
 use native.Mathlib.Omega.{arith}
 use lib.ListN.{length, take}
+use borrow.Author.Rules.{rules}
 use mir.Facts.{to_z-of_z}
 use mir.Syntax.{w64}
 use Rattle.laws.specs.Lists.{gather}
@@ -44,7 +45,7 @@ loop-i-preserved c = (
   omega (arith, c.put_item-end.ensures.1),
   pens_as
       (lines_more c.args.cells.now c.loop-i.i _
-      (to_z-of_z {w = w64} (record { sfits = c.put_item-arg-in-loop-i-1.given }))
+      (to_z-of_z {w = w64} (record { sfits = search rules }))
       (omega arith))
       (pens_more c.loop-i.invariant.2 c.put_item-end.ensures.0),
 )
