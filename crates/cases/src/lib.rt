@@ -1,7 +1,7 @@
 // Stored cases: reading them from a file, and printing what a call answers and leaves.
 #![tactic(auto)]
 
-ghost use Rattle.std.specs.Prelude.{◌≤◌, ◌<◌, ◌≡◌, length, IfOk};
+ghost use Rattle.std.specs.Prelude.{◌≤◌, ◌<◌, ◌≡◌, length, IfOk, OnErr};
 
 use std::io::Read;
 use std::rt::Files;
@@ -27,7 +27,8 @@ pub fn opened<R: Files + Print + Eprint>(
 
 // Reads until `space` is full or the file ends, and answers how many bytes it put at the start of `space`.
 pub fn read_full(file: &mut impl Read, space: &mut [u8]) -> io::Result<usize>
-    ensures { IfOk result (λ n. n ≤ length space.new) }
+    ensures within { IfOk result (λ n. n ≤ length space.new) }
+    ensures kept { OnErr result (length space.new ≡ length space.old) }
 {
     let mut done: usize = 0;
     while done < space.len() {
@@ -66,7 +67,8 @@ pub fn next_number(file: &mut impl Read) -> io::Result<usize>
 
 // Reads the next byte string, its length in two bytes before it, to the start of `space`, and answers its length.
 pub fn load(file: &mut impl Read, space: &mut [u8]) -> io::Result<usize>
-    ensures { IfOk result (λ n. n ≤ length space.new) }
+    ensures within { IfOk result (λ n. n ≤ length space.new) }
+    ensures kept { OnErr result (length space.new ≡ length space.old) }
 {
     let high = next_byte(file)?;
     let low = next_byte(file)?;

@@ -2,7 +2,7 @@
 // they agree.
 #![tactic(auto)]
 
-ghost use Rattle.std.specs.Prelude.{◌≤◌, length, IfOk};
+ghost use Rattle.std.specs.Prelude.{◌≡◌, ◌≤◌, length, IfOk, OnErr};
 
 use std::io::Read;
 use std::rt::Files;
@@ -10,7 +10,8 @@ use std::{fs, io};
 
 // Reads until `space` is full or the file ends, and answers how many bytes it put at the start of `space`.
 fn read_full(file: &mut impl Read, space: &mut [u8]) -> io::Result<usize>
-    ensures { IfOk result (λ n. n ≤ length space.new) }
+    ensures within { IfOk result (λ n. n ≤ length space.new) }
+    ensures kept { OnErr result (length space.new ≡ length space.old) }
 {
     let mut done: usize = 0;
     while done < space.len() {
@@ -26,7 +27,8 @@ fn read_full(file: &mut impl Read, space: &mut [u8]) -> io::Result<usize>
 // Reads a file to the start of `space`, no further than that is long, and answers how many bytes it read. A missing
 // file is empty.
 fn load(rt: &impl Files, path: &str, space: &mut [u8]) -> io::Result<usize>
-    ensures { IfOk result (λ n. n ≤ length space.new) }
+    ensures within { IfOk result (λ n. n ≤ length space.new) }
+    ensures kept { OnErr result (length space.new ≡ length space.old) }
 {
     match fs::open(rt, path) {
         Ok(mut file) => read_full(&mut file, space),

@@ -4,7 +4,7 @@
 // shows the stored cases of `cases.bin`.
 #![tactic(auto)]
 
-ghost use Rattle.std.specs.Prelude.{◌+◌, ◌≤◌, ◌<◌, ◌≡◌, length, IfOk};
+ghost use Rattle.std.specs.Prelude.{◌+◌, ◌≤◌, ◌<◌, ◌≡◌, length, IfOk, OnErr};
 ghost use Rattle.shown_records.specs.Records.{Within};
 
 use reader::Typed;
@@ -261,7 +261,8 @@ fn show_typed(rt: &impl Print, typed: &[u8], doc: &[u8]) -> io::Result<()> {
 // Reads a file to the start of `space`, no further than that is long, and answers how many bytes it read. A missing
 // file is empty.
 fn load(rt: &impl Files, path: &str, space: &mut [u8]) -> io::Result<usize>
-    ensures { IfOk result (λ n. n ≤ length space.new) }
+    ensures within { IfOk result (λ n. n ≤ length space.new) }
+    ensures kept { OnErr result (length space.new ≡ length space.old) }
 {
     match fs::open(rt, path) {
         Ok(mut file) => cases::read_full(&mut file, space),
