@@ -43,7 +43,7 @@ RowsApart (RV t c) ts = Unit {0}
 RowsApart (RC t c) ts = Unit {0}
 RowsApart (RE t) ts = Untied (alike (0 ∷ 1 ∷ [])) (table_of ts t)
 RowsApart (RK t c) ts = Unit {0}
-RowsApart (RX t axis test) ts = Unit {0}
+RowsApart (RX t axis _) ts = Unit {0}
 RowsApart (RO t k) ts = Unit {0}
 
 abbrev pub Tieless : World → List Op → List Table → Type 0

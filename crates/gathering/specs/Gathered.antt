@@ -19,7 +19,7 @@ use Rattle.tables.specs.Order.{cell_at}
 unfoldable pub column_of : Gather → ℕ
 column_of (Count c) = c
 column_of Truth = 0
-column_of (Step axis test) = 0
+column_of (Step axis _) = 0
 
 unfoldable pub gathered : Gather → World → ℤ → Table → Attempt Table
 gathered (Count c) w x g = gives ((x ∷ pos (length g) ∷ []) ∷ [])
@@ -40,4 +40,4 @@ whole gather w t = each (made gather w t) (groups t (column_of gather))
 unfoldable pub Asks : Gather → (width room : ℕ) → List ℕ → ℕ → (from to : List Bool) → Type 0
 Asks (Count c) width room doc rows from to = (c < width) × (room ≤ 65536)
 Asks Truth width room doc rows from to = width ≡ 3
-Asks (Step axis test) width room doc rows from to = (width ≡ 2) × Ready doc rows from to
+Asks (Step axis _) width room doc rows from to = (width ≡ 2) × Ready doc rows from to
