@@ -13,7 +13,7 @@ import os, re, sys
 ROOT = sys.argv[1] if len(sys.argv) > 1 else "."
 WORD = re.compile(r"[^\s(){}\[\],;.:λ→\"`∷◌]+")
 DECL = re.compile(r"^\s*(?:(?:abbrev|unfoldable|pub|mutual)\s+)*((?:[^\s(){}.,;:]+\s+)*?[^\s(){}.,;:]+)\s+:(?:\s|$)")
-HEAD = re.compile(r"^\s*(?:(?:abbrev|unfoldable|pub)\s+)*(?:data|record|module|use|open|unfolding|where|ruleset)\b")
+HEAD = re.compile(r"^\s*(?:(?:abbrev|unfoldable|pub)\s+)*(?:data|record|module|use|open|unfolding|where|ruleset)(?=\s|$)")
 
 
 def files(*ends):
@@ -85,7 +85,7 @@ for p, t in texts.items():
             if m and not HEAD.match(line):
                 every |= set(m.group(1).split())
 for old in sorted(table):
-    if "-" in old and (table[old] in every or any(table[o] == table[old] for o in table if o != old and "-" not in o)):
+    if "-" in old and not any("/specs/" in p for p in where[old]) and (table[old] in every or any(table[o] == table[old] for o in table if o != old and "-" not in o)):
         table[old] += "_lem"
 table["firstAlone"] = "first_alone_of"
 # Lemmas that port.py had turned already, and that would have a definition's name; a record of a plan, beside that of a query.

@@ -15,7 +15,7 @@ use Rattle.meaning.specs.Query.{Query, QL, QE, QR, QV, QS, QT, QF, QI, QO, QC, Q
 use Rattle.meaning.specs.Query.{variable, sequence, letting, for, choice, function, counting, values, step}
 use Rattle.meaning.specs.Query.{record_at, Read, Operand, bound, leaf, one, two, three, operands, read, query_read}
 use Rattle.grammar.specs.Encoded.{record_bytes, query_bytes, Within, Ranged, Covers, Encodes}
-use Rattle.grammar.proofs.Encoding.{record-stands}
+use Rattle.grammar.proofs.Encoding.{record_stands}
 
 module _ (bs : List ℕ) where
   -- the record and its first operand, one after the other
@@ -113,9 +113,9 @@ module _ (bs : List ℕ) where
 pub read_covers :
     (bs : List ℕ) → Bytes bs → (d : ℕ) (vs : List ℕ) (n at : ℕ) → Found (Covers bs at) (read d bs vs n at)
 unfolding read record_at
-read_covers bs h zero vs n at = found_reading (found_refusing 1 at (record-stands bs h at)) (λ r k. found_refuses)
+read_covers bs h zero vs n at = found_reading (found_refusing 1 at (record_stands bs h at)) (λ r k. found_refuses)
 read_covers bs h (suc d) vs n at =
-    found_reading (found_refusing 1 at (record-stands bs h at))
+    found_reading (found_refusing 1 at (record_stands bs h at))
     (λ r k.
     found_unless (ltb n 128) 2 at
     (λ t.

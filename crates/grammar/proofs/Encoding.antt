@@ -1,6 +1,6 @@
 -- A record that is read stands where it was read, byte by byte.
 --     word_front          the n bytes from an offset on are those of the number that they make
---     record-stands       a record that is read stands there, and its fields are in range
+--     record_stands       a record that is read stands there, and its fields are in range
 use Prim.Native.Nat.{ℕ, zero, suc, ◌+◌, ◌*◌, ◌-◌, ◌/◌, ◌%◌, ◌≤◌, ◌<◌}
 use mathlib.Core.Path.{◌≡◌, refl, sym, ap, ap₂, ◌∙◌}
 use mathlib.Core.List.{List, [], ◌∷◌, ◌++◌, append_assoc, append-nil}
@@ -232,10 +232,10 @@ module _ (bs : List ℕ) (h : Bytes bs) (at : ℕ) where
         ranged = omega (arith, q.1);
       }))))
 
-  pub record-stands : Given (Stands bs at) (record_of bs at (word bs at 2))
+  pub record_stands : Given (Stands bs at) (record_of bs at (word bs at 2))
   unfolding record_of record_bytes record_qe record_qr record_qv record_qs record_qt record_qf record_qi record_qo record_qc
       record_qd
-  record-stands =
+  record_stands =
       let b = byte_at bs (at + 2) in
       let m = word bs at 2 in
       given_if (eqb m mark_ql) (λ t. integer_stands (eqb-true m mark_ql t))

@@ -16,7 +16,7 @@ use Rattle.grammar.specs.Words.{Var, plus, times, named}
 use Rattle.grammar.specs.Records as Records
 use Rattle.grammar.specs.Grammar.{Part, expr, single, additive, multiplicative, path, primary, words, records}
 use Rattle.grammar.specs.Grammar.{a_single, comma, a_comparison, for_in, an_additive, a_product, added, a_path}
-use Rattle.grammar.specs.Grammar.{multiplied, a_primary, stepped, integer, root_of_lem, variable, counted, group}
+use Rattle.grammar.specs.Grammar.{multiplied, a_primary, stepped, integer, root_of, variable, counted, group}
 use Rattle.laws.specs.Characters.{is_letter, is_digit, first}
 use Rattle.grammar.specs.Spelled.{joins, Spells}
 use Rattle.grammar.specs.Typed.{Typed}
@@ -73,7 +73,7 @@ latitudes : Part expr 32
 unfolding value value_from one
 latitudes =
     a_single
-    (for_in a (child (root_of_lem one (omega arith) (omega arith)) 2 (omega arith))
+    (for_in a (child (root_of one (omega arith) (omega arith)) 2 (omega arith))
     (single_of (a_product (of_primary (counted (child (variable a) 3 (omega arith)))))))
 
 latitudes_records : records latitudes

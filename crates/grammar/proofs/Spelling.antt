@@ -4,7 +4,7 @@
 --     spelt_heading, spelt_between, spelt_closing     a text behind a beginning; two with words between; one with words
 --                                   behind it
 --     signs_apart                   a comma, a slash or a closing parenthesis joins no word before it
---     for_heading, let_heading, if_heading, count_heading, data-heading, open-heading     the beginnings
+--     for_heading, let_heading, if_heading, count_heading, data_heading, open_heading     the beginnings
 --     comma_between, word_between, then_between       the words between
 --     close_closing, step_closing                     the words behind
 --     truth_spelt, empty_spelt, variable_spelt, root_spelt      the texts without operands
@@ -134,11 +134,11 @@ close_after k ws u h = spells_word k close_sign ws u (signs_apart k 41 refl) h
 pub count_heading : Heading (count_word ∷ open_sign ∷ []) count_head
 count_heading = record { before = λ ws u h. first_word count_word _ _ (open_after word ws u h) }
 
-pub data-heading : Heading (data_word ∷ open_sign ∷ []) data_head
-data-heading = record { before = λ ws u h. first_word data_word _ _ (open_after word ws u h) }
+pub data_heading : Heading (data_word ∷ open_sign ∷ []) data_head
+data_heading = record { before = λ ws u h. first_word data_word _ _ (open_after word ws u h) }
 
-pub open-heading : Heading (open_sign ∷ []) (40 ∷ [])
-open-heading = record { before = λ ws u h. first_word open_sign ws u h }
+pub open_heading : Heading (open_sign ∷ []) (40 ∷ [])
+open_heading = record { before = λ ws u h. first_word open_sign ws u h }
 
 -- Words between
 

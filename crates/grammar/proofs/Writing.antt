@@ -41,7 +41,7 @@ use Rattle.grammar.specs.Records.{record_qt, record_qf, record_qi, record_qo, re
 use Rattle.grammar.specs.Grammar.{Level, expr, single, comparison, additive, multiplicative, path, primary}
 use Rattle.grammar.specs.Grammar.{a_single, comma, for_in, let_be, if_then, a_comparison, an_additive}
 use Rattle.grammar.specs.Grammar.{compared, a_product, added, a_path, multiplied, a_primary, stepped, integer}
-use Rattle.grammar.specs.Grammar.{negative, variable, truth, empty, root_of_lem, counted, valued, group, words}
+use Rattle.grammar.specs.Grammar.{negative, variable, truth, empty, root_of, counted, valued, group, words}
 use Rattle.grammar.specs.Grammar.{records}
 use Rattle.grammar.specs.Spelled.{Spells}
 use Rattle.grammar.specs.Typed.{Typed, records_outcome, TypedCall, inside}
@@ -52,7 +52,7 @@ use Rattle.grammar.specs.Encoded.{item_record, query_bytes, Plain, Ranged}
 use Rattle.grammar.specs.Parts.{Spelt, Writes}
 use Rattle.grammar.proofs.Decimals.{numeral}
 use Rattle.grammar.proofs.Spelling.{spelt_word, spelt_heading, spelt_between, spelt_closing, for_heading}
-use Rattle.grammar.proofs.Spelling.{let_heading, if_heading, count_heading, data-heading, open-heading}
+use Rattle.grammar.proofs.Spelling.{let_heading, if_heading, count_heading, data_heading, open_heading}
 use Rattle.grammar.proofs.Spelling.{comma_between, word_between, then_between, close_closing, step_closing}
 use Rattle.grammar.proofs.Spelling.{truth_spelt, empty_spelt, variable_spelt, root_spelt}
 use Rattle.grammar.proofs.Covering.{query_bytes_lem}
@@ -184,7 +184,7 @@ module _ {d : ℕ} {bs t : List ℕ} where
       record {
         part = group w.part;
         meant = w.meant;
-        spelt = spelt_heading open-heading (spelt_closing close_closing w.spelt);
+        spelt = spelt_heading open_heading (spelt_closing close_closing w.spelt);
       }
 
 pub enclosed_writes :
@@ -239,7 +239,7 @@ module _ {d : ℕ} where
   root_writes k some small =
       let m = numeral k (omega arith) in
       record {
-        part = root_of_lem m.figures (omega (arith, m.valued)) (omega (arith, m.valued));
+        part = root_of m.figures (omega (arith, m.valued)) (omega (arith, m.valued));
         meant = ap record_qr m.valued;
         spelt =
             subst (λ (x : List ℕ). Spelt (root_word ∷ open_sign ∷ fixed x ∷ close_sign ∷ []) (root_text k))
@@ -356,13 +356,13 @@ module _ {d : ℕ} {xs t : List ℕ} where
         spelt = spelt_heading count_heading (spelt_closing close_closing a.spelt);
       }
 
-  data-writes : Writes single d xs t → Writes primary d (record_qd ++ xs) (data_head ++ (t ++ (41 ∷ [])))
+  data_writes : Writes single d xs t → Writes primary d (record_qd ++ xs) (data_head ++ (t ++ (41 ∷ [])))
   unfolding words records
-  data-writes a =
+  data_writes a =
       record {
         part = valued a.part;
         meant = ap (λ (x : List ℕ). record_qd ++ x) a.meant;
-        spelt = spelt_heading data-heading (spelt_closing close_closing a.spelt);
+        spelt = spelt_heading data_heading (spelt_closing close_closing a.spelt);
       }
 
   stepped_writes :
@@ -443,7 +443,7 @@ writes (QO at f a b) l d h r =
     (λ e g.
     applied_writes f (writes a (left_level f) e (omega arith) r.0) (writes b (right_level f) e (omega arith) r.1))
 writes (QC at a) l d h r = from_primary l (count_writes (writes a single d (omega arith) r))
-writes (QD at a) l d h r = from_primary l (data-writes (writes a single d (omega arith) r))
+writes (QD at a) l d h r = from_primary l (data_writes (writes a single d (omega arith) r))
 writes (QX at x t a) l d h r =
     enclosed_writes path l d (omega (arith, depth_some a))
     (λ e g. step_writes x t r.0 (writes a path e (omega arith) r.1))

@@ -71,7 +71,7 @@ pub data Part : Level → ℕ → Type 0 where
   variable : {d : ℕ} → Var → Part primary d
   truth : {d : ℕ} → Bool → Part primary d
   empty : {d : ℕ} → Part primary d
-  root_of_lem : {d : ℕ} (n : Digits) → 1 ≤ value n → value n ≤ 255 → Part primary d
+  root_of : {d : ℕ} (n : Digits) → 1 ≤ value n → value n ≤ 255 → Part primary d
   counted : {d : ℕ} → Part single d → Part primary d
   valued : {d : ℕ} → Part single d → Part primary d
   group : {d : ℕ} → Part expr d → Part primary (suc d)
@@ -100,7 +100,7 @@ words (negative n small) = negative_word n ∷ []
 words (variable v) = dollar_sign ∷ variable_word v ∷ []
 words (truth b) = truth_word b ∷ open_sign ∷ close_sign ∷ []
 words empty = open_sign ∷ close_sign ∷ []
-words (root_of_lem n some small) = root_word ∷ open_sign ∷ integer_word n ∷ close_sign ∷ []
+words (root_of n some small) = root_word ∷ open_sign ∷ integer_word n ∷ close_sign ∷ []
 words (counted p) = count_word ∷ open_sign ∷ (words p ++ (close_sign ∷ []))
 words (valued p) = data_word ∷ open_sign ∷ (words p ++ (close_sign ∷ []))
 words (group p) = open_sign ∷ (words p ++ (close_sign ∷ []))
@@ -125,7 +125,7 @@ records (negative n small) = record_ql (minus_bits (value n))
 records (variable v) = record_qv v.number
 records (truth b) = record_qb b
 records empty = record_qe
-records (root_of_lem n some small) = record_qr (value n)
+records (root_of n some small) = record_qr (value n)
 records (counted p) = record_qc ++ records p
 records (valued p) = record_qd ++ records p
 records (group p) = records p

@@ -20,7 +20,7 @@ use Rattle.grammar.specs.Words.{Word, symbol}
 use Rattle.grammar.specs.Grammar.{Level, expr, single, comparison, additive, multiplicative, path, primary, Part}
 use Rattle.grammar.specs.Grammar.{a_single, comma, for_in, let_be, if_then, a_comparison, an_additive, compared}
 use Rattle.grammar.specs.Grammar.{a_product, added, a_path, multiplied, a_primary, stepped, integer, negative}
-use Rattle.grammar.specs.Grammar.{variable, truth, empty, root_of_lem, counted, valued, group, most_groups, words, records}
+use Rattle.grammar.specs.Grammar.{variable, truth, empty, root_of, counted, valued, group, most_groups, words, records}
 use Rattle.laws.specs.Characters.{is_space, AllDigits}
 use Rattle.laws.proofs.Characters.{digit_few}
 use Rattle.grammar.specs.Spelled.{Spells}
@@ -37,7 +37,7 @@ use Rattle.parsing.proofs.CompleteChains.{factors_terms, plus_terms, terms_sides
 use Rattle.parsing.proofs.CompleteChains.{comma_items}
 use Rattle.parsing.proofs.CompletePrimaries.{Beginning, Begins, integer_primary, negative_primary}
 use Rattle.parsing.proofs.CompletePrimaries.{variable_primary, truth_primary, empty_primary, root_primary}
-use Rattle.parsing.proofs.CompletePrimaries.{count_primary, data-primary, group_primary}
+use Rattle.parsing.proofs.CompletePrimaries.{count_primary, data_primary, group_primary}
 use Rattle.parsing.proofs.CompleteSingles.{LeadingBytes, Leads, for_single, let_single, if_single}
 use Rattle.parsing.proofs.CompleteSingles.{sides_single}
 
@@ -116,7 +116,7 @@ starts (variable v) = record { solid = refl; unclosed = refl; no_if = refl; no_l
 starts (truth true) = record { solid = refl; unclosed = refl; no_if = refl; no_let = refl; no_for = inl refl }
 starts (truth false) = record { solid = refl; unclosed = refl; no_if = refl; no_let = refl; no_for = inr refl }
 starts empty = record { solid = refl; unclosed = refl; no_if = refl; no_let = refl; no_for = refl }
-starts (root_of_lem n some small) =
+starts (root_of n some small) =
     record { solid = refl; unclosed = refl; no_if = refl; no_let = refl; no_for = inl refl }
 starts (counted p) = record { solid = refl; unclosed = refl; no_if = refl; no_let = refl; no_for = inl refl }
 starts (valued p) = record { solid = refl; unclosed = refl; no_if = refl; no_let = refl; no_for = inl refl }
@@ -154,9 +154,9 @@ stated (negative n small) = negative_primary n small
 stated (variable v) = variable_primary v
 stated (truth b) = truth_primary b
 stated empty = empty_primary
-stated (root_of_lem n some small) = root_primary n some small
+stated (root_of n some small) = root_primary n some small
 stated (counted p) = count_primary (stated p)
-stated (valued p) = data-primary (stated p)
+stated (valued p) = data_primary (stated p)
 stated (group p) = group_primary (words p) (starts p) (stated p)
 
 -- The text

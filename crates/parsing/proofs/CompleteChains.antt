@@ -27,7 +27,7 @@ use Rattle.parsing.specs.Reader.{more_items, readers, read_expr}
 use Rattle.parsing.proofs.CompleteWords.{Reached, reached, reached_then}
 use Rattle.parsing.proofs.CompleteNext.{follow, behind, allows, allows_freely, sound_follow, read_next_lem}
 use Rattle.parsing.proofs.CompleteLeaves.{read_step_lem}
-use Rattle.parsing.proofs.CompleteLevels.{Open, open-from, open-then, part_of, Loose, Primary, Steps, Factors}
+use Rattle.parsing.proofs.CompleteLevels.{Open, open_from, open_then, part_of, Loose, Primary, Steps, Factors}
 use Rattle.parsing.proofs.CompleteLevels.{Terms, Sides, Single, Items, steps_closed, closed, turn_on}
 use Rattle.parsing.proofs.CompleteLevels.{steps_inside, either_false, loose_comma}
 
@@ -51,10 +51,10 @@ step_on : (xs : List ℕ) (x : Axis) (y : NodeTest) (e : Ends) (c : Bool) (n : N
     → Open (more_steps (readers l) e c xs Slash t)
     (λ l. more_steps (readers l) e c (record_qx x (tested y) ++ xs) n) (kind_of n) (behind n vs) m
 step_on xs x y e c n vs l m t h s a sp =
-    open-then _
+    open_then _
     (read_step_lem x y (follow n vs) t (sound_follow n vs) sp)
     (λ u su lu.
-    open-then _
+    open_then _
     (read_next_lem e c (test_kind (tested y)) vs u n a su)
     (λ v sv lv.
     steps_inside l e c (kind_of n) (behind n vs) m (record_qx x (tested y) ++ xs) n v (omega arith)
@@ -66,10 +66,10 @@ module _ {ws : List Word} {xs : List ℕ} {d : ℕ} where
   primary_steps p = record {
     reads =
         λ m k e c n vs t l a sp.
-        open-then _
+        open_then _
         (p.reads m k (follow n vs) t l (sound_follow n vs) sp)
         (λ u su lu.
-        open-then _ (read_next_lem e c p.ends vs u n a su)
+        open_then _ (read_next_lem e c p.ends vs u n a su)
         (λ v sv lv.
         open_at (λ l. more_steps (readers l) e c xs n) (kind_of n) (behind n vs) m (length t) v (omega arith)
         (omega arith)
@@ -85,7 +85,7 @@ module _ {ws : List Word} {xs : List ℕ} {d : ℕ} where
         p.reads m k e c Slash (axis_word x ∷ axis_sign ∷ (node_test_words y ++ follow n vs)) t l refl
         (regroup k ws (slash_sign ∷ axis_word x ∷ axis_sign ∷ node_test_words y) (follow n vs) t sp)
         in
-        open-from o.reads
+        open_from o.reads
         (step_on xs x y e c n vs o.left (length t) o.at o.enough o.shorter a o.spells);
   }
 
@@ -100,7 +100,7 @@ module _ {ws : List Word} {xs : List ℕ} {d : ℕ} where
   steps_factors p = record {
     reads =
         λ m k e c n vs t l a f sp.
-        open-then _ (steps_reached p m k e c n vs t l a f sp)
+        open_then _ (steps_reached p m k e c n vs t l a f sp)
         (λ u su lu.
         open_at (λ l. more_factors (readers l) d e c xs n) (kind_of n) (behind n vs) m (length t) u (omega arith)
         (omega arith)
@@ -121,7 +121,7 @@ module _ {ws : List Word} {xs : List ℕ} {d : ℕ} where
   factors_terms p = record {
     reads =
         λ m k e c n vs t l a f g sp.
-        open-then _
+        open_then _
         (factors_reached p m k e c n vs t l a f g sp)
         (λ u su lu.
         open_at (λ l. more_terms (readers l) d e c xs n) (kind_of n) (behind n vs) m (length t) u (omega arith)
@@ -160,7 +160,7 @@ module _ {ws : List Word} {xs : List ℕ} {d : ℕ} where
   single_items p = record {
     reads =
         λ m k e n vs t l b a s sp.
-        open-then _ (p.reads m k e n vs t l a s sp)
+        open_then _ (p.reads m k e n vs t l a s sp)
         (λ u su lu.
         open_at (λ l. more_items (readers l) d e xs n) (kind_of n) (behind n vs) m (length t) u (omega arith)
         (omega arith)

@@ -26,9 +26,9 @@ use Rattle.parsing.proofs.CompleteWords.{Sound, entered, read_word_lem, no_space
 use Rattle.parsing.proofs.CompleteWords.{no_digit}
 use Rattle.parsing.proofs.CompleteNumbers.{name_reads, decimal_first}
 
-pub open-solid : Solid open_sign.bytes
+pub open_solid : Solid open_sign.bytes
 unfolding is_space
-open-solid = refl
+open_solid = refl
 
 pub close_solid : Solid close_sign.bytes
 unfolding is_space
@@ -36,7 +36,7 @@ close_solid = refl
 
 pub read_open : (k : Kind) (vs : List Word) (t : List ℕ) → Spells k (open_sign ∷ vs) t
     → Reached (read_word k open_sign t) tt symbol vs (length t)
-read_open k vs t sp = read_word_lem k open_sign vs t open-solid sp
+read_open k vs t sp = read_word_lem k open_sign vs t open_solid sp
 
 pub read_close : (k : Kind) (vs : List Word) (t : List ℕ) → Spells k (close_sign ∷ vs) t
     → Reached (read_word k close_sign t) tt symbol vs (length t)

@@ -2,7 +2,7 @@
 -- xs it says that the level's reader, on every text that spells ws and what may follow, comes to xs.
 --     Open r loop k vs m      r is what the loop gives at a place behind which vs is spelled, behind kind k, in fewer
 --                             than m bytes and in no more than its readers are for
---     open-then, open-from    .. then what comes next; .. of another that is equal
+--     open_then, open_from    .. then what comes next; .. of another that is equal
 --     part_of xs n             a part's records and the word behind it
 --     Loose n                 word n goes on with no chain but that of commas
 --     loose-..                .. so do a comma and the words that end a part
@@ -38,9 +38,9 @@ pub record Open (r : Res Went) (loop : ℕ → Reader Went) (k : Kind) (vs : Lis
   pub spells : Spells k vs at
   pub shorter : length at < m
 
-pub open-from : {q r : Res Went} {loop : ℕ → Reader Went} {k : Kind} {vs : List Word} {m : ℕ} → q ≡ r
+pub open_from : {q r : Res Went} {loop : ℕ → Reader Went} {k : Kind} {vs : List Word} {m : ℕ} → q ≡ r
     → Open r loop k vs m → Open q loop k vs m
-open-from e h =
+open_from e h =
     record {
       left = h.left;
       at = h.at;
@@ -50,11 +50,11 @@ open-from e h =
       shorter = h.shorter;
     }
 
-pub open-then : {A : Type 0} {r : Res A} {a : A} {k j : Kind} {vs us : List Word} {m l : ℕ} {loop : ℕ → Reader Went}
+pub open_then : {A : Type 0} {r : Res A} {a : A} {k j : Kind} {vs us : List Word} {m l : ℕ} {loop : ℕ → Reader Went}
     (f : A → Reader Went) → Reached r a k vs m
     → ((at : List ℕ) → Spells k vs at → length at < m → Open (f a at) loop j us l)
     → Open (then r f) loop j us l
-open-then f h g = open-from (ap (λ x. then x f) h.reads) (g h.at h.spells h.shorter)
+open_then f h g = open_from (ap (λ x. then x f) h.reads) (g h.at h.spells h.shorter)
 
 -- The levels
 
@@ -179,8 +179,8 @@ module _ (i : ℕ) (side : ℕ → Kind → Reader Went) (again : ℕ → List �
       → Open r (λ l. turn i (side l) (again l) (operation p ++ (xs ++ ys)) n) j vs m
   turn_on {j = j} {vs = vs} {m = m} xs ys p n f h g o =
       let a = o.left in
-      open-from (o.reads ∙ either_true (eqb (tightness p) i) _ (went xs p) o.at h)
-      (open-then _ (g a o.at o.enough o.spells)
+      open_from (o.reads ∙ either_true (eqb (tightness p) i) _ (went xs p) o.at h)
+      (open_then _ (g a o.at o.enough o.spells)
       (λ t st lt.
       inside a j vs m (operation p ++ (xs ++ ys)) n t f (omega (arith, o.enough)) (omega (arith, o.shorter)) st))
 

@@ -29,7 +29,7 @@ use Rattle.parsing.proofs.CompleteWords.{Reached, reached, reached_from, reached
 use Rattle.parsing.proofs.CompleteWords.{Sound, entered, no_digit}
 use Rattle.parsing.proofs.CompleteNumbers.{numeral_reads, number_reads, digits_solid, typed_digits, typed_some}
 use Rattle.parsing.proofs.CompleteNumbers.{typed_amount, first_digit}
-use Rattle.parsing.proofs.CompleteLeaves.{read_open, read_close, read_brackets, read_variable_lem, open-solid}
+use Rattle.parsing.proofs.CompleteLeaves.{read_open, read_close, read_brackets, read_variable_lem, open_solid}
 use Rattle.parsing.proofs.CompleteLeaves.{close_solid}
 use Rattle.parsing.proofs.CompleteLevels.{loose_close, Primary, Single, Items, either_true, either_false}
 use Rattle.parsing.proofs.CompleteLevels.{single_inside, items_inside}
@@ -225,7 +225,7 @@ module _ {d : ℕ} where
 
   pub empty_primary : Primary (open_sign ∷ close_sign ∷ []) record_qe d
   empty_primary =
-      opens_with open_sign (close_sign ∷ []) record_qe d symbol open-solid (λ m r. read_group (readers m) d r)
+      opens_with open_sign (close_sign ∷ []) record_qe d symbol open_solid (λ m r. read_group (readers m) d r)
       (λ m r. at_open (readers m) d r)
       (λ m vs t l s sp.
       entered symbol close_sign vs t
@@ -268,9 +268,9 @@ module _ {ws : List Word} {xs : List ℕ} {d : ℕ} where
       (λ m r. at_count (readers m) d r)
       (λ m vs t l s sp. reached_more (read_call_lem p record_qc m vs t l sp) (omega arith))
 
-  pub data-primary : Single ws xs d → Primary (data_word ∷ open_sign ∷ (ws ++ (close_sign ∷ []))) (record_qd ++ xs) d
+  pub data_primary : Single ws xs d → Primary (data_word ∷ open_sign ∷ (ws ++ (close_sign ∷ []))) (record_qd ++ xs) d
   unfolding is_space
-  data-primary p =
+  data_primary p =
       opens_with data_word (open_sign ∷ (ws ++ (close_sign ∷ []))) (record_qd ++ xs) d symbol refl
       (λ m r. read_call (readers m) d record_qd r)
       (λ m r. at_data (readers m) d r)
@@ -327,6 +327,6 @@ read_group_lem {xs} {d} (w ∷ ws) b p m vs t l sp =
 pub group_primary : {xs : List ℕ} {d : ℕ} (ws : List Word) → Begins ws → Items ws xs d
     → Primary (open_sign ∷ (ws ++ (close_sign ∷ []))) xs (suc d)
 group_primary {xs} {d} ws b p =
-    opens_with open_sign (ws ++ (close_sign ∷ [])) xs (suc d) symbol open-solid (λ m r. read_group (readers m) (suc d) r)
+    opens_with open_sign (ws ++ (close_sign ∷ [])) xs (suc d) symbol open_solid (λ m r. read_group (readers m) (suc d) r)
     (λ m r. at_open (readers m) (suc d) r)
     (λ m vs t l s sp. read_group_lem ws b p m vs t l sp)

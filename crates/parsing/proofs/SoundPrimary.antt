@@ -17,7 +17,7 @@ use Rattle.grammar.specs.Words.{Kind, symbol, word, name, Word, integer_word, ne
 use Rattle.grammar.specs.Words.{close_sign, truth_word, root_word, count_word, data_word}
 use Rattle.grammar.specs.Records.{minus_bits, record_ql, record_qb, record_qe, record_qr, record_qv, record_qc, record_qd}
 use Rattle.grammar.specs.Grammar.{Level, expr, single, additive, multiplicative, path, primary, Part, words, records}
-use Rattle.grammar.specs.Grammar.{integer, negative, variable, truth, empty, root_of_lem, counted, valued, group}
+use Rattle.grammar.specs.Grammar.{integer, negative, variable, truth, empty, root_of, counted, valued, group}
 use Rattle.laws.specs.Characters.{is_digit, is_letter, first}
 use Rattle.grammar.specs.Spelled.{joins, Parted}
 use Rattle.parsing.specs.declared.Ends.{Ends}
@@ -130,7 +130,7 @@ primed_root : (d : ℕ) (s₀ s₁ s₂ u : List ℕ) (n : Digits) → 1 ≤ val
 unfolding words records
 primed_root d s₀ s₁ s₂ u n some small h₀ h₁ h₂ =
     record {
-      part = root_of_lem n some small;
+      part = root_of n some small;
       meant = refl;
       spelt = spelt_append (spelt_bytes root_word) (spelt_append h₀ (spelt_append h₁ h₂));
       filled = tt;
@@ -312,10 +312,10 @@ module _ (rd : Readers) (right : Right rd) where
   unfolding words records
   count_judged d = call_judged d count_word record_qc counted refl tt (λ p. refl) (λ p. refl)
 
-  data-judged : (d : ℕ) (t : List ℕ)
+  data_judged : (d : ℕ) (t : List ℕ)
       → Judged (λ s u o. Primed d symbol (data_word.bytes ++ s) u o) t (read_call rd d record_qd t)
   unfolding words records
-  data-judged d = call_judged d data_word record_qd valued refl tt (λ p. refl) (λ p. refl)
+  data_judged d = call_judged d data_word record_qd valued refl tt (λ p. refl) (λ p. refl)
 
   pub primary_judged : (d : ℕ) (t : List ℕ) → Judged (Primed d symbol) t (read_primary rd d t)
   primary_judged d =
@@ -342,5 +342,5 @@ module _ (rd : Readers) (right : Right rd) where
       (byte_judged 40 refl (group_judged d)
       (byte_judged 114 refl (letters_then (111 ∷ 111 ∷ 116 ∷ []) refl (root_judged d))
       (byte_judged 99 refl (letters_then (111 ∷ 117 ∷ 110 ∷ 116 ∷ []) refl (count_judged d))
-      (byte_judged 100 refl (letters_then (97 ∷ 116 ∷ 97 ∷ []) refl (data-judged d))
+      (byte_judged 100 refl (letters_then (97 ∷ 116 ∷ 97 ∷ []) refl (data_judged d))
       (λ u. inhabited (49 ∷ []) _ (primed_one d []))))))))) t)

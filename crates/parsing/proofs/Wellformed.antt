@@ -37,7 +37,7 @@ use Rattle.grammar.specs.Records.{minus_bits, record_ql, record_qb, record_qe, r
 use Rattle.grammar.specs.Records.{record_qf, record_qi, record_qo, record_qc, record_qd, record_qx}
 use Rattle.grammar.specs.Grammar.{Level, expr, Part, most_groups, records, a_single, comma, for_in, let_be, if_then}
 use Rattle.grammar.specs.Grammar.{a_comparison, an_additive, compared, a_product, added, a_path, multiplied, a_primary}
-use Rattle.grammar.specs.Grammar.{stepped, integer, negative, variable, truth, empty, root_of_lem, counted, valued, group}
+use Rattle.grammar.specs.Grammar.{stepped, integer, negative, variable, truth, empty, root_of, counted, valued, group}
 use Rattle.grammar.specs.Typed.{Typed}
 
 -- Outcomes
@@ -352,7 +352,7 @@ module _ (bs : List ℕ) where
       leaf_walked (QV-back v) (λ rd vs at n next. bound_walks (bound v.number vs) at (arrives _ refl))
   records_walked (truth b) = leaf_walked (QB-back b).1 (λ rd vs at n next. arrives _ refl)
   records_walked empty = leaf_walked QE-back (λ rd vs at n next. arrives _ refl)
-  records_walked (root_of_lem n some small) =
+  records_walked (root_of n some small) =
       leaf_walked (QR-back (value n) some small) (λ rd vs at n next. arrives _ refl)
   records_walked (counted p) = one_walked QC QC-back (λ rd vs at n next. refl) (records_walked p)
   records_walked (valued p) = one_walked QD QD-back (λ rd vs at n next. refl) (records_walked p)

@@ -137,16 +137,16 @@ module _ (rd : Operand) (h : (vs : List ℕ) (n at : ℕ) → Only ThreeNumbers 
   operands_three vs at n next Q.values = one_three _ _ (h vs n next)
   operands_three vs at n next (Q.step x t) = one_three _ _ (h vs n next)
 
-record-three : (bs : List ℕ) (at : ℕ) → Only ThreeNumbers (record_at bs at)
+record_three : (bs : List ℕ) (at : ℕ) → Only ThreeNumbers (record_at bs at)
 unfolding record_at
-record-three bs at = only_refusing (record_of bs at (word bs at 2)) 1 at (omega arith, omega arith)
+record_three bs at = only_refusing (record_of bs at (word bs at 2)) 1 at (omega arith, omega arith)
 
 read_three : (d : ℕ) (bs vs : List ℕ) (n at : ℕ) → Only ThreeNumbers (read d bs vs n at)
 unfolding read
 read_three zero bs vs n at =
-    only_reading (record_at bs at) (record-three bs at) (λ r. only_refuses (omega arith, omega arith))
+    only_reading (record_at bs at) (record_three bs at) (λ r. only_refuses (omega arith, omega arith))
 read_three (suc d) bs vs n at =
-    only_reading (record_at bs at) (record-three bs at)
+    only_reading (record_at bs at) (record_three bs at)
     (λ r. only_unless (ltb n 128) 2 at (omega arith, omega arith)
     (operands_three (read d bs) (read_three d bs) vs at (suc n) r.1 r.0))
 

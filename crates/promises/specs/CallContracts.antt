@@ -50,14 +50,14 @@ pub record QueryAllows (query : List ℕ) (answer : Checked) : Type 0 where
   pub given : Dens lifetimes QueryKinds.ps
   pub end : AtExit (ended_of 1 QueryKinds.ps QueryKinds.r) lifetimes
   pub contract : QueryCheck.Learnt lifetimes given answer end
-  pub of_query_lem : given.0.now ≡ query
+  pub of_query : given.0.now ≡ query
 
 pub record TranslateAllows (query bytes : List ℕ) (answer : Translated) (bytes' : List ℕ) : Type 0 where
   pub lifetimes : Lfts 2
   pub given : Dens lifetimes TranslateKinds.ps
   pub end : AtExit (ended_of 2 TranslateKinds.ps TranslateKinds.r) lifetimes
   pub contract : Translate.Learnt lifetimes given answer end
-  pub of_query_lem : given.0.now ≡ query
+  pub of_query : given.0.now ≡ query
   pub lent : given.1.0.now ≡ bytes
   pub left : end.1.0.now ≡ bytes'
 
@@ -66,7 +66,7 @@ pub record RunAllows (plan doc : List ℕ) (work : List ℤ) (answer : Ran) (wor
   pub given : Dens lifetimes RunKinds.ps
   pub end : AtExit (ended_of 3 RunKinds.ps RunKinds.r) lifetimes
   pub contract : Run.Learnt lifetimes given answer end
-  pub of_plan_lem : given.0.now ≡ plan
+  pub of_plan : given.0.now ≡ plan
   pub of_doc : given.1.0.now ≡ doc
   pub lent : given.1.1.0.now ≡ work
   pub left : end.1.1.0.now ≡ work'
@@ -76,7 +76,7 @@ pub record EvaluateAllows (query doc : List ℕ) (work : List ℤ) (answer : Eva
   pub given : Dens lifetimes EvaluateKinds.ps
   pub end : AtExit (ended_of 3 EvaluateKinds.ps EvaluateKinds.r) lifetimes
   pub contract : Evaluate.Learnt lifetimes given answer end
-  pub of_query_lem : given.0.now ≡ query
+  pub of_query : given.0.now ≡ query
   pub of_doc : given.1.0.now ≡ doc
   pub lent : given.1.1.0.now ≡ work
   pub left : end.1.1.0.now ≡ work'
@@ -95,7 +95,7 @@ pub record WriteAllows (query text : List ℕ) (answer : Written) (text' : List 
   pub given : Dens lifetimes WriteKinds.ps
   pub end : AtExit (ended_of 2 WriteKinds.ps WriteKinds.r) lifetimes
   pub contract : Write.Learnt lifetimes given answer end
-  pub of_query_lem : given.0.now ≡ query
+  pub of_query : given.0.now ≡ query
   pub lent : given.1.0.now ≡ text
   pub left : end.1.0.now ≡ text'
 
@@ -105,11 +105,11 @@ pub record TellAllows (query doc : List ℕ) (work kept : List ℤ) (text : List
   pub given : Dens lifetimes TellKinds.ps
   pub end : AtExit (ended_of 6 TellKinds.ps TellKinds.r) lifetimes
   pub contract : Tell.Learnt lifetimes given n end
-  pub of_query_lem : given.0.now ≡ query
+  pub of_query : given.0.now ≡ query
   pub of_doc : given.1.0.now ≡ doc
   pub lent_cells : given.1.1.1.0.now ≡ work
   pub lent_kept : given.1.1.1.1.0.now ≡ kept
-  pub lent_text_lem : given.1.1.1.1.1.0.now ≡ text
+  pub lent_text : given.1.1.1.1.1.0.now ≡ text
   pub left_plan : end.1.1.0.now ≡ plan'
   pub left_cells : end.1.1.1.0.now ≡ work'
   pub left_kept : end.1.1.1.1.0.now ≡ kept'

@@ -37,7 +37,7 @@ use Rattle.query_records.specs.Decoded.{reading_of, operands_of}
 use Rattle.queries.specs.Answers.{answered, walked}
 use Rattle.queries.specs.Walk.{Passing, Walker, passes, two, three, steps, walk, answer_of, Flags}
 use Rattle.query_records.proofs.Outcomes.{refusing_apart}
-use Rattle.query_records.proofs.Fields.{record-sound}
+use Rattle.query_records.proofs.Fields.{record_sound}
 use Rattle.query_records.specs.Fields.{Ranged}
 use Rattle.queries.specs.contracts.Checking.{the_type}
 
@@ -168,13 +168,13 @@ unfolding unless passes reading
 passes_unless true k p a b e = e
 passes_unless false k p a b e = refl
 
-record-walk :
+record_walk :
     (d : ℕ) (bs : List ℕ) → Walks (read d bs) (walk d bs) → Walks (read (suc d) bs) (walk (suc d) bs)
 unfolding read walk
-record-walk d bs ih fs vs n at g =
+record_walk d bs ih fs vs n at g =
     reading_same (record_at bs at) _ _
     (λ x e.
-    let s = record-sound bs at (word bs at 2) x (record_at_gives bs at x e) in
+    let s = record_sound bs at (word bs at 2) x (record_at_gives bs at x e) in
     passes_unless (ltb n 128) 2 at _ _
     (operands_walk (read d bs) (walk d bs) ih x.0 fs vs at (suc n) x.1 s.ranged g))
     ∙ sym (passes_reading (record_at bs at) _)
@@ -182,7 +182,7 @@ record-walk d bs ih fs vs n at g =
 pub walk_read : (d : ℕ) (bs : List ℕ) → Walks (read d bs) (walk d bs)
 unfolding read walk passes reading
 walk_read zero bs fs vs n at g = sym (passes_reading (record_at bs at) (λ r. refuses 2 at))
-walk_read (suc d) bs fs vs n at g = record-walk d bs (walk_read d bs) fs vs n at g
+walk_read (suc d) bs fs vs n at g = record_walk d bs (walk_read d bs) fs vs n at g
 
 -- The steps of the code
 

@@ -4,7 +4,7 @@
 --     variable_room, variable_fails, variable_means    a record of a variable
 --     apply_none, apply_means    a function
 --     step_no_axis, step_no_test, step_means    a step
---     record-cut, record-gap, record-none    no record where the mark is cut, or is none of the thirteen
+--     record_cut, record_gap, record_none    no record where the mark is cut, or is none of the thirteen
 use Prim.Native.Nat.{ℕ, ◌+◌, ◌≤◌, ◌<◌}
 use mathlib.Core.Path.{◌≡◌, refl, sym, ◌∙◌, ap, subst, subst⁻¹}
 use mathlib.Core.Bool.{Bool, true, false, cond}
@@ -69,14 +69,14 @@ pub boolean_none : (n : ℕ) → NoneOf n (1 ∷ 0 ∷ []) → boolean_of n ≡ 
 unfolding boolean_of
 boolean_none n ((h, a), b) = simp (ne_eqb n 0 a, ne_eqb n 1 b)
 
-pub record-none :
+pub record_none :
     (bs : List ℕ) (at m : ℕ) →
     NoneOf m
     (mark_qx ∷ mark_qd ∷ mark_qc ∷ mark_qo ∷ mark_qi ∷ mark_qf ∷ mark_qt ∷ mark_qs ∷ mark_qv ∷ mark_qr ∷ mark_qe ∷ mark_qb ∷ mark_ql
     ∷ []) →
     Query.record_of bs at m ≡ fails
 unfolding Query.record_of
-record-none bs at m (((((((((((((h, a), b), c), d), e), f), g), i), j), k), l), n), o) =
+record_none bs at m (((((((((((((h, a), b), c), d), e), f), g), i), j), k), l), n), o) =
     simp (
       ne_eqb m mark_ql a,
       ne_eqb m mark_qb b,
@@ -94,10 +94,10 @@ record-none bs at m (((((((((((((h, a), b), c), d), e), f), g), i), j), k), l), 
     )
 
 -- the two single numbers between the marks that name nothing
-pub record-gap : (bs : List ℕ) (at m : ℕ) → (m ≡ 0x5155) ⊎ (m ≡ 0x5157) → Query.record_of bs at m ≡ fails
+pub record_gap : (bs : List ℕ) (at m : ℕ) → (m ≡ 0x5155) ⊎ (m ≡ 0x5157) → Query.record_of bs at m ≡ fails
 unfolding Query.record_of
-record-gap bs at m (inl e) = rw e
-record-gap bs at m (inr e) = rw e
+record_gap bs at m (inl e) = rw e
+record_gap bs at m (inr e) = rw e
 
 -- A record of a variable
 
@@ -205,9 +205,9 @@ module _ (bs : List ℕ) (at : ℕ) where
   either : (t : Bool) (a b : Attempt (Query.Record × ℕ)) → ReadFails a → ReadFails b → ReadFails (cond t a b)
   either t a b = cond_all ReadFails t a b
 
-  pub record-cut : (mark : ℕ) → fits bs at 2 ≡ false → Query.record_of bs at mark ≡ fails
+  pub record_cut : (mark : ℕ) → fits bs at 2 ≡ false → Query.record_of bs at mark ≡ fails
   unfolding Query.record_of
-  record-cut mark e =
+  record_cut mark e =
       either (eqb mark mark_ql) _ _ (shorter 6 _ (omega arith) e)
       (either (eqb mark mark_qb) _ _ (shorter 3 _ (omega arith) e)
       (either (eqb mark mark_qe) _ _ (shorter 2 _ (omega arith) e)

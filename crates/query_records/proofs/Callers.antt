@@ -14,7 +14,7 @@ use Rattle.query_records.specs.declared.Decoded.{Decoded}
 use Rattle.query_records.specs.Decoded as Code
 use Rattle.query_records.specs.Decoded.{reading_of, SmallLiteral, Smalls, Means}
 use Rattle.query_records.specs.Fields.{SoundRecord}
-use Rattle.query_records.proofs.Fields.{record-sound}
+use Rattle.query_records.proofs.Fields.{record_sound}
 
 module _
     (bs : List ℕ) (at : ℕ) (r : Found) (m : Means r (record_of bs at (word bs at 2)))
@@ -24,7 +24,7 @@ module _
   found_gives = sym m.means ∙ ap reading_of h
 
   pub found_sound : SoundRecord bs at (Code.record_of f.kind, f.next)
-  found_sound = record-sound bs at (word bs at 2) (Code.record_of f.kind, f.next) found_gives
+  found_sound = record_sound bs at (word bs at 2) (Code.record_of f.kind, f.next) found_gives
 
   pub found_small : SmallLiteral f.kind
   found_small = subst Smalls h m.small

@@ -1,6 +1,6 @@
 -- A record that is read ends after its offset and within the bytes, and its fields are in their ranges.
---     record-given      every record that `record_of` gives is sound
---     record-sound      the same, of one record
+--     record_given      every record that `record_of` gives is sound
+--     record_sound      the same, of one record
 use Prim.Native.Nat.{ℕ, ◌+◌, ◌≤◌, ◌<◌}
 use mathlib.Core.Path.{◌≡◌}
 use mathlib.Core.List.{List}
@@ -39,9 +39,9 @@ module _ (bs : List ℕ) (at : ℕ) where
   plain : (n : ℕ) (r : Record) → 0 < n → Ranged r → Given (SoundRecord bs at) (sized bs at n (gives r))
   plain n r h k = sized_sound n (gives r) h (given_gives k)
 
-  pub record-given : (mark : ℕ) → Given (SoundRecord bs at) (record_of bs at mark)
+  pub record_given : (mark : ℕ) → Given (SoundRecord bs at) (record_of bs at mark)
   unfolding record_of Ranged
-  record-given mark =
+  record_given mark =
       let b = byte_at bs (at + 2) in
       given_cond (eqb mark mark_ql) (plain 6 _ (omega arith) tt)
       (given_cond (eqb mark mark_qb) (sized_sound 3 _ (omega arith) (given_any _ (λ z. given_gives tt)))
@@ -58,5 +58,5 @@ module _ (bs : List ℕ) (at : ℕ) where
       (given_cond (eqb mark mark_qx)
       (sized_sound 6 _ (omega arith) (given_any _ (λ x. given_any _ (λ t. given_gives tt)))) given_fails))))))))))))
 
-  pub record-sound : (mark : ℕ) (x : Record × ℕ) → record_of bs at mark ≡ gives x → SoundRecord bs at x
-  record-sound mark x e = (record-given mark).given x e
+  pub record_sound : (mark : ℕ) (x : Record × ℕ) → record_of bs at mark ≡ gives x → SoundRecord bs at x
+  record_sound mark x e = (record_given mark).given x e

@@ -23,7 +23,7 @@ use Rattle.query_walks.specs.Parse.{Parsed, lone, pair, triple, trees, parse}
 use Rattle.laws.proofs.Outcomes.{fails_gives, gives_same}
 use Rattle.query_records.proofs.Outcomes.{attempt_apart}
 use Rattle.query_walks.specs.Statements.{More, Spans}
-use Rattle.query_records.proofs.Fields.{record-sound}
+use Rattle.query_records.proofs.Fields.{record_sound}
 
 -- The operands of a tree that is given
 
@@ -191,7 +191,7 @@ unfolding parse
 parse_next zero bs at y e = absurd (fails_gives y e)
 parse_next (suc d) bs at y e =
     let (r, p, q) = attempt_apart (record_of bs at (word bs at 2)) (λ r. trees (parse d bs) at r.1 r.0) y e in
-    let g = record-sound bs at (word bs at 2) r p in
+    let g = record_sound bs at (word bs at 2) r p in
     let s = trees_spans (parse d bs) r.1 r.0 at y q in
     let i = spans_next bs (parse d bs) r.1 (operands_of r.0) y.0 y.1 (parse_next d bs) g.within s in
     omega arith

@@ -1,7 +1,7 @@
 -- The query check answers alike on bytes that are alike up to 1,024: it reads 128 records of six bytes at most and
 -- begins one more, so it looks at no byte past 774.
 --     byte_alike, word_alike     what stands below 1,024
---     record-alike               the record at an offset
+--     record_alike               the record at an offset
 --     agree_reading              what comes next, on readings that agree
 --     agree_operands             a record and its operands
 --     agree_read                 the query at an offset
@@ -41,9 +41,9 @@ sized_short :
 unfolding sized
 sized_short bs at n r h = given_provided (fits bs at n) (λ t. given_any r (λ x. given_gives (omega arith)))
 
-pub record-short : (bs : List ℕ) (at mark : ℕ) → Given (Short at) (record_of bs at mark)
+pub record_short : (bs : List ℕ) (at mark : ℕ) → Given (Short at) (record_of bs at mark)
 unfolding record_of
-record-short bs at mark =
+record_short bs at mark =
     given_cond (eqb mark mark_ql) (sized_short bs at 6 _ (omega arith))
     (given_cond (eqb mark mark_qb) (sized_short bs at 3 _ (omega arith))
     (given_cond (eqb mark mark_qe) (sized_short bs at 2 _ (omega arith))
@@ -77,9 +77,9 @@ module _ {bs cs : List ℕ} (alike : Alike bs cs) where
       le-leb (at + n) (length bs) (omega (arith, alike.long))
       ∙ sym (le-leb (at + n) (length cs) (omega (arith, alike.other)))
 
-  record-of-alike : (at mark : ℕ) → at + 6 ≤ most_bytes → record_of bs at mark ≡ record_of cs at mark
+  record_of_alike : (at mark : ℕ) → at + 6 ≤ most_bytes → record_of bs at mark ≡ record_of cs at mark
   unfolding record_of sized int4
-  record-of-alike at mark h =
+  record_of_alike at mark h =
       simp (
         fits_alike at 2 (omega arith),
         fits_alike at 3 (omega arith),
@@ -90,14 +90,14 @@ module _ {bs cs : List ℕ} (alike : Alike bs cs) where
         word_alike (at + 4) 2 (omega arith),
       )
 
-  pub record-alike : (at : ℕ) → at + 6 ≤ most_bytes → Agree (Short at) (record_at bs at) (record_at cs at)
+  pub record_alike : (at : ℕ) → at + 6 ≤ most_bytes → Agree (Short at) (record_at bs at) (record_at cs at)
   unfolding record_at
-  record-alike at h =
+  record_alike at h =
       record {
         same =
             ap (refusing 1 at)
-            (record-of-alike at (word bs at 2) h ∙ ap (record_of cs at) (word_alike at 2 (omega arith)));
-        found = found_refusing 1 at (record-short bs at (word bs at 2));
+            (record_of_alike at (word bs at 2) h ∙ ap (record_of cs at) (word_alike at 2 (omega arith)));
+        found = found_refusing 1 at (record_short bs at (word bs at 2));
       }
 
 -- Its operands
@@ -171,9 +171,9 @@ agree_operands rd qd k vs at n next (step x t) h = agree_one (QX at x t) (k vs n
 module _ {bs cs : List ℕ} (alike : Alike bs cs) where
   pub agree_read : (d : ℕ) → Reaching (read d bs) (read d cs)
   unfolding read
-  agree_read zero vs n at h = agree_reading (record-alike alike at (omega arith)) (λ x s. agree_refuses 2 at)
+  agree_read zero vs n at h = agree_reading (record_alike alike at (omega arith)) (λ x s. agree_refuses 2 at)
   agree_read (suc d) vs n at h =
-      agree_reading (record-alike alike at (omega arith))
+      agree_reading (record_alike alike at (omega arith))
       (λ x s.
       agree_unless (ltb n most_records) 2 at
       (λ t.

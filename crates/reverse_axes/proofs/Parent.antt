@@ -34,7 +34,7 @@ pub record Waiting (n : ℕ) (level : ℕ → ℕ) (ms : List Bool) (i l x : ℕ
   pub there : x < n
   pub marked : get_or ms x false ≡ true
   pub on : level x ≡ l
-  pub open-yet : (u : ℕ) → i ≤ u → u < x → l ≤ level u
+  pub open_yet : (u : ℕ) → i ≤ u → u < x → l ≤ level u
 
 pub record Waits (n : ℕ) (level : ℕ → ℕ) (ms : List Bool) (i : ℕ) (waits : List Bool) : Type 0 where
   pub long : length waits ≡ 65
@@ -93,7 +93,7 @@ module _ (c : Catalogue) (n : ℕ) (s : Nested n c.size c.level) (ms : List Bool
 
         by_place : Dec (x ≡ i) → l ≤ c.level v + 1
         by_place (yes d) = omega (arith, rise, w.on, ap c.level d)
-        by_place (no d) = omega (arith, rise, w.open-yet i (omega arith) (omega (arith, w.from)))
+        by_place (no d) = omega (arith, rise, w.open_yet i (omega arith) (omega (arith, w.from)))
 
     -- what waits below v waits at v where it is not below v's level
     waits_on : (l x : ℕ) → l ≤ c.level v → Waiting n c.level ms i l x → Waiting n c.level ms v l x
@@ -103,12 +103,12 @@ module _ (c : Catalogue) (n : ℕ) (s : Nested n c.size c.level) (ms : List Bool
           there = w.there;
           marked = w.marked;
           on = w.on;
-          open-yet = λ u a b. by_place u a b (ℕ_discrete u v);
+          open_yet = λ u a b. by_place u a b (ℕ_discrete u v);
         }
       where
         by_place : (u : ℕ) → v ≤ u → u < x → Dec (u ≡ v) → l ≤ c.level u
         by_place u a b (yes d) = rw d k
-        by_place u a b (no d) = w.open-yet u (omega arith) b
+        by_place u a b (no d) = w.open_yet u (omega arith) b
 
     bound_past : (l x : ℕ) → Waiting n c.level ms v l x → get_or past l false ≡ true
     bound_past l x w = by_place (ℕ_discrete x v) (ℕ_discrete l (c.level v))
@@ -121,7 +121,7 @@ module _ (c : Catalogue) (n : ℕ) (s : Nested n c.size c.level) (ms : List Bool
               there = w.there;
               marked = w.marked;
               on = w.on;
-              open-yet = λ u a b. w.open-yet u (omega arith) b;
+              open_yet = λ u a b. w.open_yet u (omega arith) b;
             })
 
         by_place : Dec (x ≡ v) → Dec (l ≡ c.level v) → get_or past l false ≡ true
@@ -134,7 +134,7 @@ module _ (c : Catalogue) (n : ℕ) (s : Nested n c.size c.level) (ms : List Bool
             ∙ past_own
             ∙ or_left (get_or ms v false) (ap (λ y. get_or waits y false) (sym k) ∙ before d)
         by_place (no d) (no k) =
-            let low = w.open-yet v (omega arith) (omega (arith, w.from)) in
+            let low = w.open_yet v (omega arith) (omega (arith, w.from)) in
             past_other l k (omega arith) ∙ before d
 
     held_past : (l : ℕ) → get_or past l false ≡ true → (x : ℕ) × Waiting n c.level ms v l x
@@ -143,7 +143,7 @@ module _ (c : Catalogue) (n : ℕ) (s : Nested n c.size c.level) (ms : List Bool
         here : l ≡ c.level v → get_or ms v false ≡ true → (x : ℕ) × Waiting n c.level ms v l x
         here k m = (
           v,
-          record { from = omega arith; there = h; marked = m; on = sym k; open-yet = λ u a b. absurd (omega arith) },
+          record { from = omega arith; there = h; marked = m; on = sym k; open_yet = λ u a b. absurd (omega arith) },
         )
 
         before : get_or waits l false ≡ true → ¬ (l ≡ c.level v + 1) → (x : ℕ) × Waiting n c.level ms v l x
@@ -186,7 +186,7 @@ module _ (c : Catalogue) (n : ℕ) (s : Nested n c.size c.level) (ms : List Bool
         by_last a (yes d) = omega (arith, s.ends v h (omega (arith, w.there)), w.on, ap c.level d)
         by_last a (no d) =
             omega
-            (arith, s.ends v h (omega (arith, w.there)), w.open-yet (v + c.size v + 1) (omega arith) (omega arith))
+            (arith, s.ends v h (omega (arith, w.there)), w.open_yet (v + c.size v + 1) (omega arith) (omega arith))
 
         by_end : (x ≤ v + c.size v) ⊎ (v + c.size v < x) → x ≤ v + c.size v
         by_end (inl a) = a
@@ -222,5 +222,5 @@ module _ (c : Catalogue) (n : ℕ) (s : Nested n c.size c.level) (ms : List Bool
               there = j;
               marked = m;
               on = d.2;
-              open-yet = λ u k l. omega (arith, s.inside v u h (omega arith) (omega (arith, d.1)));
+              open_yet = λ u k l. omega (arith, s.inside v u h (omega arith) (omega (arith, d.1)));
             })

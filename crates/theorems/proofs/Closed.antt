@@ -68,9 +68,9 @@ plain_named :
     → Given (λ x. Named x.0) (sized bs at n (attempt a (λ x. gives (f x))))
 plain_named bs at n a f h = sized_named bs at n _ (given_any a (λ x. given_gives (h x)))
 
-record-named : (bs : List ℕ) (at mark : ℕ) → Given (λ x. Named x.0) (record_of bs at mark)
+record_named : (bs : List ℕ) (at mark : ℕ) → Given (λ x. Named x.0) (record_of bs at mark)
 unfolding record_of
-record-named bs at mark =
+record_named bs at mark =
     given_cond (eqb mark Q.mark_ql) (sized_named bs at 6 _ (given_gives tt))
     (given_cond (eqb mark Q.mark_qb) (plain_named bs at 3 _ _ (λ b. tt))
     (given_cond (eqb mark Q.mark_qe) (sized_named bs at 2 _ (given_gives tt))
@@ -178,9 +178,9 @@ module _ (d : ℕ) (rd : Operand) (h : (vs : List ℕ) (n at : ℕ) → Found (W
 read_well : (d : ℕ) (bs vs : List ℕ) (n at : ℕ) → Found (Well d vs n) (read d bs vs n at)
 unfolding read record_at
 read_well zero bs vs n at =
-    found_reading (found_refusing 1 at (record-named bs at (word bs at 2))) (λ r k. found_refuses)
+    found_reading (found_refusing 1 at (record_named bs at (word bs at 2))) (λ r k. found_refuses)
 read_well (suc d) bs vs n at =
-    found_reading (found_refusing 1 at (record-named bs at (word bs at 2)))
+    found_reading (found_refusing 1 at (record_named bs at (word bs at 2)))
     (λ r k.
     found_unless (ltb n 128) 2 at
     (λ t. operands_well d (read d bs) (read_well d bs) vs at n r.1 r.0 (ltb-true n 128 t) k))

@@ -138,19 +138,19 @@ module _ (xs : List ℕ) (m t : ℕ) (h : t < 65536) (rest : List ℕ) where
   table_back = word_after xs (plan_record m t rest) 2 2 ∙ word_written (0x52 ∷ m ∷ []) rest 2 t h
 
   -- a record of n bytes, by what its mark says of its fields
-  record-back :
+  record_back :
       (n : ℕ) (o : Op) (r : Attempt Op) → n ≤ 4 + length rest → r ≡ gives o →
       operator_of (xs ++ plan_record m t rest) (length xs) (0x5200 + m)
       ≡ sized (xs ++ plan_record m t rest) (length xs) n r →
       operator_at (xs ++ plan_record m t rest) (length xs) ≡ gives (o, length xs + n)
-  record-back n o r k p q =
+  record_back n o r k p q =
       operator_marked (xs ++ plan_record m t rest) (length xs) (0x5200 + m) _ mark_back
       (q ∙ sized_at xs (plan_record m t rest) n o r (omega arith) p)
 
 back_RE : (t : ℕ) → t < 65536 → ReadsBack (RE t)
 unfolding operator_bytes bytes_of operator_of
 back_RE t h xs ys =
-    record-back xs 0x45 t h ys 4 (RE t) _ (omega arith) (ap (λ a. gives (RE a)) (table_back xs 0x45 t h ys)) refl
+    record_back xs 0x45 t h ys 4 (RE t) _ (omega arith) (ap (λ a. gives (RE a)) (table_back xs 0x45 t h ys)) refl
 
 -- two tables
 module _ (m t u : ℕ) (h : t < 65536) (k : u < 65536) (xs ys : List ℕ) where
@@ -162,13 +162,13 @@ module _ (m t u : ℕ) (h : t < 65536) (k : u < 65536) (xs ys : List ℕ) where
 back_RU : (t u : ℕ) → t < 65536 → u < 65536 → ReadsBack (RU t u)
 unfolding operator_bytes bytes_of operator_of
 back_RU t u h k xs ys =
-    record-back xs 0x55 t h (bytes_of 2 u ++ ys) 6 (RU t u) _ (omega arith)
+    record_back xs 0x55 t h (bytes_of 2 u ++ ys) 6 (RU t u) _ (omega arith)
     (ap₂ (λ a b. gives (RU a b)) (table_back xs 0x55 t h (bytes_of 2 u ++ ys)) (second_back 0x55 t u h k xs ys)) refl
 
 back_RD : (t u : ℕ) → t < 65536 → u < 65536 → ReadsBack (RD t u)
 unfolding operator_bytes bytes_of operator_of
 back_RD t u h k xs ys =
-    record-back xs 0x44 t h (bytes_of 2 u ++ ys) 6 (RD t u) _ (omega arith)
+    record_back xs 0x44 t h (bytes_of 2 u ++ ys) 6 (RD t u) _ (omega arith)
     (ap₂ (λ a b. gives (RD a b)) (table_back xs 0x44 t h (bytes_of 2 u ++ ys)) (second_back 0x44 t u h k xs ys)) refl
 
 -- one column
@@ -178,7 +178,7 @@ column_back :
     operator_of bs at (0x5200 + m) ≡ sized bs at 5 (gives (f (word bs (at + 2) 2) (byte_at bs (at + 4))))) →
     operator_at (xs ++ plan_record m t (c ∷ ys)) (length xs) ≡ gives (f t c, length xs + 5)
 column_back f m t c xs ys h q =
-    record-back xs m t h (c ∷ ys) 5 (f t c) _ (omega arith)
+    record_back xs m t h (c ∷ ys) 5 (f t c) _ (omega arith)
     (ap₂ (λ a b. gives (f a b)) (table_back xs m t h (c ∷ ys)) (byte_at_lem xs (plan_record m t (c ∷ ys)) 4))
     (q (xs ++ plan_record m t (c ∷ ys)) (length xs))
 
@@ -217,7 +217,7 @@ back_RA : (t : ℕ) (z : ℤ) → t < 65536 → plain_in (held z) ≡ true → R
 unfolding operator_bytes bytes_of operator_of
 back_RA t z h p xs ys =
     let rest : List ℕ = bytes_of 8 (bits8 z) ++ ys in
-    record-back xs 0x41 t h rest 12 (RA t z) _ (omega arith)
+    record_back xs 0x41 t h rest 12 (RA t z) _ (omega arith)
     (attach_back (xs ++ plan_record 0x41 t rest) (length xs) t _ z
     (table_back xs 0x41 t h rest) (cell_back t z h p xs ys) p)
     refl
@@ -226,7 +226,7 @@ back_RO : (t k : ℕ) → t < 65536 → 1 ≤ k → k ≤ 255 → ReadsBack (RO 
 unfolding operator_bytes bytes_of operator_of attempt
 back_RO t k h i j xs ys =
     let zs : List ℕ = plan_record 0x4F t (k ∷ ys) in
-    record-back xs 0x4F t h (k ∷ ys) 5 (RO t k) _ (omega arith)
+    record_back xs 0x4F t h (k ∷ ys) 5 (RO t k) _ (omega arith)
     (rw (byte_at_lem xs zs 4, fragment_back k i j) (ap (λ a. gives (RO a k)) (table_back xs 0x4F t h (k ∷ ys))))
     refl
 
@@ -241,7 +241,7 @@ back_RJ t c u d h k xs ys =
     word_after xs zs 5 2 ∙ word_written (0x52 ∷ 0x4A ∷ t / 256 % 256 ∷ t % 256 ∷ c ∷ []) (d ∷ ys) 2 u k
     in
     let e = byte_at_lem xs zs 7 in
-    record-back xs 0x4A t h rest 8 (RJ t c u d) _ (omega arith) (λ i. gives (RJ (a i) (b i) (other i) (e i))) refl
+    record_back xs 0x4A t h rest 8 (RJ t c u d) _ (omega arith) (λ i. gives (RJ (a i) (b i) (other i) (e i))) refl
 
 -- a list of columns, after its length
 take_back : (cs ys : List ℕ) → take (length cs) (cs ++ ys) ≡ cs
@@ -261,7 +261,7 @@ back_RP t cs h i j xs ys =
     let bs : List ℕ = xs ++ zs in
     let b : byte_at bs (length xs + 4) ≡ length cs = byte_at_lem xs zs 4 in
     let c : columns_at bs (length xs + 5) (length cs) ≡ cs = columns_at_lem xs zs 5 (length cs) ∙ take_back cs ys in
-    record-back xs 0x50 t h rest (5 + length cs) (RP t cs) (project_at bs (length xs) (length cs))
+    record_back xs 0x50 t h rest (5 + length cs) (RP t cs) (project_at bs (length xs) (length cs))
     (simp length-append (omega arith))
     (project_back bs (length xs) t cs (table_back xs 0x50 t h rest) c i j)
     (ap (λ n. sized bs (length xs) (5 + n) (project_at bs (length xs) n)) b)
@@ -282,7 +282,7 @@ back_RN t p ks h i j xs ys =
     let bs : List ℕ = xs ++ zs in
     let b : byte_at bs (length xs + 5) ≡ length ks = byte_at_lem xs zs 5 in
     let c : columns_at bs (length xs + 6) (length ks) ≡ ks = columns_at_lem xs zs 6 (length ks) ∙ take_back ks ys in
-    record-back xs 0x4E t h rest (6 + length ks) (RN t p ks) (number_at bs (length xs) (length ks))
+    record_back xs 0x4E t h rest (6 + length ks) (RN t p ks) (number_at bs (length xs) (length ks))
     (simp length-append (omega arith))
     (number_back bs (length xs) t p ks (table_back xs 0x4E t h rest) (byte_at_lem xs zs 4) c i j)
     (ap (λ n. sized bs (length xs) (6 + n) (number_at bs (length xs) n)) b)
@@ -309,7 +309,7 @@ back_RF t f c d h xs ys =
     attempt (function_of (function_number f))
     (λ g. gives (RF (word bs (length xs + 2) 2) g (byte_at bs (length xs + 5)) (byte_at bs (length xs + 6))))
     in
-    record-back xs 0x46 t h rest 7 (RF t f c d) r (three_more (length ys))
+    record_back xs 0x46 t h rest 7 (RF t f c d) r (three_more (length ys))
     (rw (function_back f) (λ i. gives (RF (a i) f (b i) (e i))))
     (rw (number, function_not_7 f))
 
@@ -322,7 +322,7 @@ back_RV t c h xs ys =
     let number : byte_at bs (length xs + 4) ≡ 7 = byte_at_lem xs zs 4 in
     let a = table_back xs 0x46 t h rest in
     let b : byte_at bs (length xs + 5) ≡ c = byte_at_lem xs zs 5 in
-    record-back xs 0x46 t h rest 6 (RV t c) _ (omega arith) (λ i. gives (RV (a i) (b i)))
+    record_back xs 0x46 t h rest 6 (RV t c) _ (omega arith) (λ i. gives (RV (a i) (b i)))
     (rw number)
 
 step_back :
@@ -343,7 +343,7 @@ back_RX t x y h k xs ys =
     word_after xs zs 6 2
     ∙ word_written (0x52 ∷ 0x58 ∷ t / 256 % 256 ∷ t % 256 ∷ axis_number x ∷ test_number y ∷ []) ys 2 (test_name y) k
     in
-    record-back xs 0x58 t h rest 8 (RX t x y) (step_at bs (length xs)) (four_more (length ys))
+    record_back xs 0x58 t h rest 8 (RX t x y) (step_at bs (length xs)) (four_more (length ys))
     (step_back bs (length xs) t x y (table_back xs 0x58 t h rest) axis test name)
     refl
 

@@ -155,9 +155,9 @@ module _ (bs : List ℕ) (at : ℕ) (h : (i : ℕ) → byte_at bs i < 256) where
       (λ y q.
       given_one RecordFields (step x y) ((name_fits t (word bs (at + 4) 2) (word_small bs (at + 4) 2 h)).given y q))))
 
-  record-fields : (mark : ℕ) → WhereGiven First (record_of bs at mark)
+  record_fields : (mark : ℕ) → WhereGiven First (record_of bs at mark)
   unfolding record_of RecordFields
-  record-fields mark =
+  record_fields mark =
       let b = byte_at bs (at + 2) in
       given_cond First (eqb mark mark_ql) _ _ (λ e. plain 6 (literal (int4 bs (at + 2))) (int4_plain bs (at + 2) h))
       (given_cond First (eqb mark mark_qb) _ _ (λ e. field 3 (boolean_of b) literal (boolean_plain b))
@@ -299,7 +299,7 @@ read_accepted (suc d) bs h vs n at r e =
     in
     let (x, p, q) = reading_reads (record_at bs at) go r e in
     let (t, s) = unless_reads (ltb n 128) 2 at (operands (read d bs) vs at (suc n) x.1 x.0) r q in
-    let k = record-fields bs at h (word bs at 2) x (refusing_reads 1 at (record_of bs at (word bs at 2)) x p) in
+    let k = record_fields bs at h (word bs at 2) x (refusing_reads 1 at (record_of bs at (word bs at 2)) x p) in
     operands_accepted (read d bs) (read_accepted d bs h) vs at (suc n) x.1 x.0 k r s
 
 pub query_accepted :

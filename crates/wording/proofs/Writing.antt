@@ -1,7 +1,7 @@
 -- What each step of the writer asks and leaves.
 --     deep, unsound            there is a tree, so the depth left is not 0, and there is a record
 --     headed                   the record's fields are in their ranges
---     open-room .. close_room, operands_asked     room for each piece of an expression's text
+--     open_room .. close_room, operands_asked     room for each piece of an expression's text
 --     expression_makes         the pieces, one after another, are the expression's text
 --     none_makes, one_asked .. three_makes        the operands of a record, by how many there are
 --     first_asked .. two_made, choice_asked .. choice_made      two operands, and three, one after another
@@ -56,8 +56,8 @@ module _ (bs : List ℕ) (at d : ℕ) (l : Level) (end : ℕ) (h : Asked (parse 
   pub deep : d ≡ 0 → ⊥
   deep z = fails_gives h.found (sym (shallow_parses bs at d z) ∙ h.given)
 
-  pub open-room : end + 1 < 2 ^ 64
-  open-room = omega (arith, h.room)
+  pub open_room : end + 1 < 2 ^ 64
+  open_room = omega (arith, h.room)
 
   module _ (r : Found) (m : Means r (recordIn bs at (word bs at 2))) where
     pub unsound : r ≡ Found.Unsound → ⊥

@@ -13,7 +13,7 @@ use Rattle.query_records.specs.Arms.{step_record}
 use Rattle.query_records.specs.Decoded.{record_of}
 use Rattle.cells.proofs.Cut.{fits_cut, fits_room, fits_there}
 use Rattle.query_records.proofs.Arms.{means_sized, means_mark, means_none}
-use Rattle.query_records.proofs.Arms.{record-cut, record-gap, record-none}
+use Rattle.query_records.proofs.Arms.{record_cut, record_gap, record_none}
 use mathlib.Core.Path.{ap}
 use mathlib.Core.Bool.{not}
 use Rattle.query_records.proofs.read.Goals as goal
@@ -23,7 +23,7 @@ returns-then-not-fits c =
     let a = c.args in
     let f = c.fits in
     means_none a.query.now a.at _
-    (record-cut a.query.now a.at (word a.query.now a.at 2)
+    (record_cut a.query.now a.at (word a.query.now a.at 2)
     (fits_cut f.result a.query.now a.at 2 f.ensures (ap not c.if-not-fits.true)))
 
 pub overflow_add-next : goal.overflow_add-next
@@ -177,11 +177,11 @@ returns-in-0-to-20801 c =
     let a = c.args in
     let m = c.word2-mark in
     means_none a.query.now a.at _
-    (rw (← m.ensures.0) (record-gap a.query.now a.at m.result (search rules)))
+    (rw (← m.ensures.0) (record_gap a.query.now a.at m.result (search rules)))
 
 pub returns-in-0-to-20801-2 : goal.returns-in-0-to-20801-2
 returns-in-0-to-20801-2 c =
     let a = c.args in
     let m = c.word2-mark in
     means_none a.query.now a.at _
-    (rw (← m.ensures.0) (record-none a.query.now a.at m.result (search rules)))
+    (rw (← m.ensures.0) (record_none a.query.now a.at m.result (search rules)))
