@@ -147,7 +147,8 @@ fn equal_word(text: &[u8], at: usize, compares: bool, otherwise: bool) -> NextRe
     if compares {
         return equal_rest(text, at + 1, compares, otherwise);
     }
-    if otherwise {
+    let may = otherwise;
+    if may {
         return equal_rest(text, at + 1, compares, otherwise);
     }
     NextRead::Stuck(at)

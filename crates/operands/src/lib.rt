@@ -106,7 +106,8 @@ fn root_close(text: &[u8], query: &mut [u8], at: usize, made: usize, k: usize) -
     ensures { Going.ReadsOperand text.now query.old query.new made
         (Single.root_close k (drop at text.now)) result }
 {
-    if k == 0 {
+    let none = k == 0;
+    if none {
         return OperandRead::Stuck(at);
     }
     match fixed(text, at, Before::Word, b")") {

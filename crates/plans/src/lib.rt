@@ -25,7 +25,8 @@ fn operators(plan: &[u8], widths: &mut [u8]) -> Checked
     let mut n: usize = 0;
     let mut last: usize = 0;
     while at < plan.len() {
-        if n == OPERATORS {
+        let full = n == OPERATORS;
+        if full {
             return Checked::Unsound(at);
         }
         let Reading::Sound(found) = read(plan, at) else {

@@ -52,7 +52,8 @@ fn operand(query: &[u8], at: usize, depth: usize, n: usize, flags: [bool; 8]) ->
     if depth == 0 {
         return Checking::Excess(at);
     }
-    if RECORDS <= n {
+    let full = RECORDS <= n;
+    if full {
         return Checking::Excess(at);
     }
     let kind = found.kind;

@@ -48,11 +48,13 @@ fn whole(query: &[u8], plan: &mut [u8]) -> Translated
     let end = rules::last(plan, pen, body.table);
     let operators = end.operators;
     let bytes = end.at;
-    if OPERATORS < operators {
+    let many = OPERATORS < operators;
+    let longer = plan.len() < bytes;
+    if many {
         pen::clear(plan, 0);
         return Translated::Excess(0);
     }
-    if plan.len() < bytes {
+    if longer {
         pen::clear(plan, 0);
         return Translated::Longer;
     }

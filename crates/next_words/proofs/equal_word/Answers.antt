@@ -20,17 +20,17 @@ returns-then-compares c =
       inside = c.equal_rest.ensures.inside;
     }
 
-pub returns-then-otherwise : goal.returns-then-otherwise
-returns-then-otherwise c =
+pub returns-then-may : goal.returns-then-may
+returns-then-may c =
     let a = c.args in
     record {
       means = equal_on a.compares a.otherwise (drop a.at a.text.now) (drop (a.at + 1) a.text.now)
-          (rest_drop a.text.now a.at) (or_right a.compares a.otherwise c.if-otherwise.true)
-          ∙ c.equal_rest-then-otherwise.ensures.means;
-      inside = c.equal_rest-then-otherwise.ensures.inside;
+          (rest_drop a.text.now a.at) (or_right a.compares a.otherwise c.if-may.true)
+          ∙ c.equal_rest-then-may.ensures.means;
+      inside = c.equal_rest-then-may.ensures.inside;
     }
 
 pub returns : goal.returns
 unfolding next_told next_place
 returns c =
-    record { means = rw (c.if-compares.false, c.if-otherwise.false); inside = omega arith }
+    record { means = rw (c.if-compares.false, c.if-may.false); inside = omega arith }

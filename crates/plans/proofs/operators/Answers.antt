@@ -18,16 +18,16 @@ pub loop-at-init : goal.loop-at-init
 loop-at-init c =
     checking_start c.args.plan.now c.args.widths.now c.requires
 
-pub returns-then-n-eq-OPERATORS : goal.returns-then-n-eq-OPERATORS
-returns-then-n-eq-OPERATORS c =
-    checking_excess c.loop-at.invariant c.loop-at-test.true c.if-n-eq-OPERATORS.true
+pub returns-then-full : goal.returns-then-full
+returns-then-full c =
+    checking_excess c.loop-at.invariant c.loop-at-test.true c.if-full.true
 
 pub returns-in_default : goal.returns-in_default
 returns-in_default c =
     let a = c.args in
     let r = c.read in
     checking_unread c.loop-at.invariant c.loop-at-test.true
-    c.if-n-eq-OPERATORS.false
+    c.if-full.false
     (unread a.plan.now c.loop-at.at r.result r.ensures c.in_default.is)
 
 pub width_of-requires : goal.width_of-requires
@@ -46,7 +46,7 @@ returns-in_default-width_of c =
     let p = found a.plan.now c.loop-at.at r.result r.ensures c.in-Sound.found c.in-Sound.is in
     checking_unfit c.loop-at.invariant
     c.loop-at-test.true
-    c.if-n-eq-OPERATORS.false
+    c.if-full.false
     _ _ p x.result x.ensures c.in_default-width_of.is
 
 pub overflow_cast-widths : goal.overflow_cast-widths
@@ -60,18 +60,18 @@ overflow_cast-widths c =
       arith,
       checking_small c.loop-at.invariant
           c.loop-at-test.true
-          c.if-n-eq-OPERATORS.false
+          c.if-full.false
           _ _ p x.result x.ensures bytes c.in-Is.w c.in-Is.is,
     )
 
 pub bounds-widths-n : goal.bounds-widths-n
 bounds-widths-n c =
     checking_place c.loop-at.invariant
-    c.if-n-eq-OPERATORS.false
+    c.if-full.false
 
 pub overflow_add-n : goal.overflow_add-n
 overflow_add-n c =
-    let p = checking_place c.loop-at.invariant c.if-n-eq-OPERATORS.false in
+    let p = checking_place c.loop-at.invariant c.if-full.false in
     omega (arith, c.loop-at.invariant.long)
 
 pub loop-at-smaller : goal.loop-at-smaller
@@ -92,7 +92,7 @@ loop-at-preserved c =
     let p = found a.plan.now c.loop-at.at r.result r.ensures c.in-Sound.found c.in-Sound.is in
     checking_on c.loop-at.invariant
     c.loop-at-test.true
-    c.if-n-eq-OPERATORS.false
+    c.if-full.false
     _ _ p x.result x.ensures bytes c.in-Is.w c.in-Is.is
 
 pub returns-then-n-eq0 : goal.returns-then-n-eq0

@@ -18,10 +18,10 @@ unfolding walked
 operand-returns-then-depth-eq0 t c =
     walk_deep c.args.query.now c.args.at c.read.result c.read.ensures.means c.args.depth c.args.flags c.args.n c.in-Sound.found c.in-Sound.is c.if-depth-eq0.true
 
-pub operand-returns-then-n-ge-RECORDS : goal.operand-returns-then-n-ge-RECORDS
+pub operand-returns-then-full : goal.operand-returns-then-full
 unfolding walked
-operand-returns-then-n-ge-RECORDS t c =
-    walk_many c.args.query.now c.args.at c.read.result c.read.ensures.means c.args.depth c.args.flags c.args.n c.in-Sound.found c.in-Sound.is c.if-n-ge-RECORDS.true
+operand-returns-then-full t c =
+    walk_many c.args.query.now c.args.at c.read.result c.read.ensures.means c.args.depth c.args.flags c.args.n c.in-Sound.found c.in-Sound.is c.if-full.true
 
 pub operand-returns-in-None : goal.operand-returns-in-None
 unfolding walked steps

@@ -1,4 +1,5 @@
 -- `whole` meets its contract: the first operator, the query's, and the last two are the whole plan.
+use native.Mathlib.Omega.{arith}
 use borrow.Author.Rules.{rules}
 use mathlib.Core.Path.{refl}
 use lib.Dec.{lit≤}
@@ -22,25 +23,25 @@ unfolding operator_of
 last-end-requires c =
     whole_room c.args.query.now _ _ _ c.requires c.add-first.ensures c.expression-body.ensures
 
-pub returns-then-operators-gt-OPERATORS : goal.returns-then-operators-gt-OPERATORS
+pub returns-then-many : goal.returns-then-many
 unfolding operator_of answered
-returns-then-operators-gt-OPERATORS c =
+returns-then-many c =
     λ q read.
     let wrote =
     whole_wrote c.args.query.now q read c.add-first.ensures c.expression-body.ensures
     c.last-end.ensures in
-    let e = many q _ _ _ wrote c.if-operators-gt-OPERATORS.true in
+    let e = many q _ _ _ wrote c.if-many.true in
     owes_refusal q _ _ _ wrote 2 _ _ e refl c.clear.ensures
 
-pub returns-then-plan-bytes : goal.returns-then-plan-bytes
+pub returns-then-longer : goal.returns-then-longer
 unfolding operator_of answered
-returns-then-plan-bytes c =
+returns-then-longer c =
     λ q read.
     let wrote =
     whole_wrote c.args.query.now q read c.add-first.ensures c.expression-body.ensures
     c.last-end.ensures in
-    let e = long q _ _ _ wrote c.if-operators-gt-OPERATORS.false c.if-plan-bytes.true in
-    owes_refusal q _ _ _ wrote 8 _ _ e refl c.clear-then-plan-bytes.ensures
+    let e = long q _ _ _ wrote (omega arith) c.if-longer.true in
+    owes_refusal q _ _ _ wrote 8 _ _ e refl c.clear-then-longer.ensures
 
 pub returns : goal.returns
 unfolding operator_of answered
@@ -49,6 +50,6 @@ returns c =
     let wrote =
     whole_wrote c.args.query.now q read c.add-first.ensures c.expression-body.ensures
     c.last-end.ensures in (
-      fits_answer q _ _ _ wrote c.if-operators-gt-OPERATORS.false c.if-plan-bytes.false,
-      fits_left q _ _ _ wrote c.if-operators-gt-OPERATORS.false c.if-plan-bytes.false _ c.clear-2.ensures,
+      fits_answer q _ _ _ wrote c.if-many.false c.if-longer.false,
+      fits_left q _ _ _ wrote c.if-many.false c.if-longer.false _ c.clear-2.ensures,
     )
