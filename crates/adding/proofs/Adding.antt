@@ -27,9 +27,7 @@ use Rattle.meaning.specs.Written.{written, operator_bytes}
 use Rattle.pen.specs.Penned.{penned, Pens}
 use Rattle.writing.specs.Listed.{columns_of, keys_of}
 use Rattle.writing.specs.declared.Columns.{Columns}
-use Rattle.writing.specs.declared.Columns.TheVariants as Columns
 use Rattle.writing.specs.declared.Keys.{Keys}
-use Rattle.writing.specs.declared.Keys.TheVariants as Keys
 use Rattle.pen.proofs.Penned.{penned_length}
 use Rattle.writing.proofs.Putting.{pens_operators}
 use Rattle.adding.specs.declared.Operator.{Operator}

@@ -46,6 +46,7 @@ pub enum Operator {
 }
 
 // Writes one operator at a position; the position after it.
+#[tactic(auto, unfolding(crate::specs::Ruled::operator_of))]
 fn write(plan: &mut [u8], at: usize, operator: Operator) -> usize
     requires { at + 16 < 2 ^ 64 }
     ensures { Pens at (operator_bytes (operator_of operator)) plan.old plan.new result }

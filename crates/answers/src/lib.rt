@@ -8,53 +8,35 @@ ghost use Rattle.meaning.specs.Operators.{column};
 ghost use Rattle.translator.specs.Answers as Translator;
 ghost use Rattle.runner.specs.Answers as Runner;
 ghost use Rattle.evaluator.specs.Answers as Evaluator;
+ghost use Rattle.verdicts.specs.Compared.{told};
 ghost use Rattle.lines.specs.Printed.{value_of, told_by};
 ghost use Rattle.answers.specs.Second.{second, Within};
 
+use codes::refusals::{Reason, Refusal};
 use evaluator::Evaluated;
 use runner::Ran;
 use translator::Translated;
 use verdicts::Told;
 
 // What the translator told: its operators, or its refusal.
-pub fn plan_told(translated: Translated) -> Told
-    ensures { result ≡ told_by 0 (Translator.answered translated) }
+pub fn plan_told(translated: Result<Translated, Refusal>) -> Told
+    ensures { told result ≡ told_by 0 (Translator.answered translated) }
 {
-    match translated {
-        Translated::Plan { operators, .. } => Told::Gave(operators),
-        Translated::Unsound(place) => Told::Refused(1, place),
-        Translated::Excess(place) => Told::Refused(2, place),
-        Translated::Unbound(place) => Told::Refused(3, place),
-        Translated::Longer => Told::Refused(8, 0),
-    }
+    translated.map(|plan| plan.operators)
 }
 
 // What the runner told: the rows of its last table, or its refusal.
 pub fn run_told(ran: Ran) -> Told
-    ensures { result ≡ told_by 1 (Runner.answered ran) }
+    ensures { told result ≡ told_by 1 (Runner.answered ran) }
 {
-    match ran {
-        Ran::Tables { rows, .. } => Told::Gave(rows),
-        Ran::BadPlan(place) => Told::Refused(5, place),
-        Ran::BadCatalogue(place) => Told::Refused(4, place),
-        Ran::Full(place) => Told::Refused(6, place),
-        Ran::Fails(place) => Told::Refused(7, place),
-    }
+    ran.map(|tables| tables.rows)
 }
 
 // What the evaluator told: its items, or its refusal.
-pub fn evaluation_told(evaluated: Evaluated) -> Told
-    ensures { result ≡ told_by 0 (Evaluator.answered evaluated) }
+pub fn evaluation_told(evaluated: Result<Evaluated, Refusal>) -> Told
+    ensures { told result ≡ told_by 0 (Evaluator.answered evaluated) }
 {
-    match evaluated {
-        Evaluated::Items { items, .. } => Told::Gave(items),
-        Evaluated::Unsound(place) => Told::Refused(1, place),
-        Evaluated::Excess(place) => Told::Refused(2, place),
-        Evaluated::Unbound(place) => Told::Refused(3, place),
-        Evaluated::Catalogue(place) => Told::Refused(4, place),
-        Evaluated::Full(place) => Told::Refused(6, place),
-        Evaluated::Failed(place) => Told::Refused(7, place),
-    }
+    evaluated.map(|given| given.items)
 }
 
 // Keeps the items of the runner's last table; there are none after a refusal.
@@ -65,22 +47,21 @@ pub fn keep_items(ran: Ran, work: &[i64], kept: &mut [i64])
         (column (rows_at work.now (value_of 0 (Runner.answered ran))
         (value_of 1 (Runner.answered ran)) 3) 2) }
 {
-    let Ran::Tables { start, rows, .. } = ran else {
-        return;
-    };
-    lines::copy_items(work, start, rows, kept);
+    if let Ok(tables) = ran {
+        lines::copy_items(work, tables.start, tables.rows, kept);
+    }
 }
 
 // What the evaluator told, in the same cells. Where the runner had no room the text is decided, and the evaluator is
 // not asked: it could take for ever.
 pub fn second_told(ran: Ran, query: &[u8], doc: &[u8], work: &mut [i64]) -> Told
-    ensures { (result ≡ told_by 0 (second (Runner.answered ran) work.old query.now
+    ensures { (told result ≡ told_by 0 (second (Runner.answered ran) work.old query.now
         doc.now).answer)
         × (work.new ≡ (second (Runner.answered ran) work.old query.now
         doc.now).left) }
 {
     match ran {
-        Ran::Full(p) => Told::Refused(6, p),
+        Err(refusal) if refusal.reason == Reason::Room => Err(refusal),
         _ => evaluation_told(evaluator::evaluate(query, doc, work)),
     }
 }

@@ -20,7 +20,8 @@ use Rattle.meaning.specs.Catalogue.{Catalogue, catalogue_of}
 use Rattle.meaning.specs.World.{on_axis, passes, reached, step}
 use Rattle.doc_rows.specs.Nested.{Nested}
 use Rattle.doc_rows.specs.Sound.{Sound}
-use Rattle.nodesets.specs.declared.Marked.TheVariants.{AllNodes, NotANode}
+use Rattle.std.specs.Prelude.{Ok, Err}
+use Rattle.nodesets.specs.declared.NotANode.{NotANode}
 use Rattle.step_parts.specs.Steps.{Known, Step}
 use Rattle.nodesets.specs.Nodes.{ranks}
 use Rattle.nodesets.specs.Nodes.{MarkSet, FromAll}
@@ -48,13 +49,13 @@ module _
       ∙ ap (λ b. b && passes c test v) (sym (any_holds n rs from o (λ x. on_axis c axis x v))))
 
   pub step_gives :
-      (xs : List ℤ) → FromAll (catalogue_of doc n) xs AllNodes from
+      (xs : List ℤ) → FromAll (catalogue_of doc n) xs (Ok tt) from
       → step (catalogue_of doc n) axis test xs ≡ gives (map node_cell (ranks n new))
   unfolding step attempt catalogue_of
   step_gives xs all = rw (all.1, reached_ranks all.0 all.2)
 
 pub step_fails :
-    (c : Catalogue) (axis : Axis) (test : Test) (xs : List ℤ) (ms : List Bool) → FromAll c xs NotANode ms
+    (c : Catalogue) (axis : Axis) (test : Test) (xs : List ℤ) (e : NotANode) (ms : List Bool) → FromAll c xs (Err e) ms
     → step c axis test xs ≡ fails
 unfolding step attempt
-step_fails c axis test xs ms e = rw e
+step_fails c axis test xs d ms e = rw e

@@ -1,20 +1,21 @@
 -- How a Single begins, by the reader's definition.
 --     binding_record b v      the record of what binds a variable v
 --     binding_rest .. bs k    the two parts of a binding with record bs, behind a word of kind k
---     binding_word, binding_variable, binding_sign, binding_part     .. from the word before them on, from the variable,
---                            its sign, and from the rest of for or let; r makes the record of the variable
+--     binding_word, binding_variable, binding_sign, binding_part     .. from the word before them on, from the
+--                            variable, its sign, and from the rest of for or let; r makes the record of the variable
 --     choice_rest .. bs       the three parts of if, with its record bs
 --     choice_part, for_part    if, and what begins with f, behind the first byte
 --     single_word             a Single, past the spaces
 --     BindingComes, ChoiceComes, SidesCome     what an answer says of the definition, by case
 --     BeginningIs, Begins    .. of each answer
-use Rattle.std.specs.Prelude.{ℕ, ◌≤◌, ◌≡◌, List, [], ◌∷◌, ◌++◌, Bool, true, false, length, drop}
+use Rattle.std.specs.Prelude.{ℕ, ◌≤◌, ◌≡◌, List, [], ◌∷◌, ◌++◌, Bool, true, false, length, drop, Result, Ok, Err}
 use Rattle.grammar.specs.Words.{Kind, symbol, word, name, dollar_sign, then_word}
 use Rattle.grammar.specs.Records.{record_qf, record_qt}
 use Rattle.parsing.specs.declared.Ends.{Ends}
 use Rattle.parsing.specs.declared.Ends.TheVariants.{WithList, WithReturn, WithElse}
 use Rattle.parsing.specs.Reader.{Res, Reader, then, entry, letters, byte, read_word, read_variable, Readers, Went, went}
 use Rattle.parsing.specs.Reader.{read_sides, read_choice}
+use Rattle.numerals.specs.declared.Stuck.{Stuck}
 use Rattle.spelling.specs.Answers.{kind_is}
 use Rattle.recording.specs.Recorded.{Adds}
 use Rattle.operands.specs.Going.{Halts}
@@ -90,15 +91,16 @@ pub record SidesCome (text before after : List ℕ) (rd : Readers) (d : ℕ) (e 
   pub same : after ≡ before
 
 unfoldable pub BeginningIs :
-    (text before after : List ℕ) (made : ℕ) (rd : Readers) (d : ℕ) (e : Ends) → Res Went → beginning.Beginning → Type 0
-BeginningIs text before after made rd d e def (beginning-is.Binding from to k) =
+    (text before after : List ℕ) (made : ℕ) (rd : Readers) (d : ℕ) (e : Ends) → Res Went →
+    Result beginning.Beginning Stuck → Type 0
+BeginningIs text before after made rd d e def (Ok (beginning-is.Binding from to k)) =
     BindingComes text before after made rd d e def from to (kind_is k)
-BeginningIs text before after made rd d e def (beginning-is.Choice from to) =
+BeginningIs text before after made rd d e def (Ok (beginning-is.Choice from to)) =
     ChoiceComes text before after made rd d e def from to
-BeginningIs text before after made rd d e def (beginning-is.Sides from begun) =
+BeginningIs text before after made rd d e def (Ok (beginning-is.Sides from begun)) =
     SidesCome text before after rd d e def from begun
-BeginningIs text before after made rd d e def (beginning-is.Stuck p) = Halts text def p
+BeginningIs text before after made rd d e def (Err s) = Halts text def s.0
 
 pub record Begins (text before after : List ℕ) (made : ℕ) (rd : Readers) (d : ℕ) (e : Ends) (def : Res Went)
-    (r : beginning.Beginning) : Type 0 where
+    (r : Result beginning.Beginning Stuck) : Type 0 where
   pub begins : BeginningIs text before after made rd d e def r

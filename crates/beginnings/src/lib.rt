@@ -9,20 +9,29 @@ ghost use Rattle.recording.specs.Recorded.{most_bytes, Adds};
 ghost use Rattle.parsing.specs.declared.Ends;
 ghost use Rattle.beginnings.specs.Begun;
 
-use numerals::{Fixed, Numeral, byte, spaces, word};
+use numerals::{Stuck, byte, word};
 use openings::opened;
 use recording::{add_for, add_if, add_let};
 use spelling::{Before, enter, fixed};
 
 // How a Single begins: with a variable that is bound, the part that it is bound to coming at an offset, with so many
 // record bytes, behind a word or a symbol; with `if`, its condition coming; with a comparison, of which the f of
-// `false` is taken or not; or the place where no text of the grammar goes on.
+// `false` is taken or not.
 #[derive(Clone, Copy)]
 pub enum Beginning {
-    Binding(usize, usize, Before),
-    Choice(usize, usize),
-    Sides(usize, bool),
-    Stuck(usize),
+    Binding {
+        from: usize,
+        made: usize,
+        before: Before,
+    },
+    Choice {
+        from: usize,
+        made: usize,
+    },
+    Sides {
+        from: usize,
+        begun: bool,
+    },
 }
 
 // What binds a variable: `for` or `let`.
@@ -43,75 +52,7 @@ fn add_binding(query: &mut [u8], made: usize, binder: Binder, v: usize) -> usize
     }
 }
 
-// The word behind a variable that is bound, and the record of the binding.
-fn binding_word(
-    text: &[u8],
-    query: &mut [u8],
-    at: usize,
-    made: usize,
-    v: usize,
-    behind: &[u8],
-    kind: Before,
-    binder: Binder,
-) -> Beginning
-    requires { (at ≤ length text.now) × (length query.old ≡ most_bytes) × (made ≤ most_bytes)
-        × (v < 256) }
-    ensures { (rd : Reader.Readers) → (d : ℕ) → (e : Ends.Ends) → Begun.Begins text.now
-        query.old query.new made rd d e (Begun.binding_word rd d e (Begun.binding_record binder v)
-        behind.now (Answers.kind_is kind) (drop at text.now)) result }
-{
-    match fixed(text, at, Before::Name, behind) {
-        Fixed::Past(next) => {
-            let to = add_binding(query, made, binder, v);
-            Beginning::Binding(next, to, kind)
-        }
-        Fixed::Stuck(place) => Beginning::Stuck(place),
-    }
-}
-
-// The variable that is bound, behind its `$`.
-fn binding_variable(
-    text: &[u8],
-    query: &mut [u8],
-    at: usize,
-    made: usize,
-    behind: &[u8],
-    kind: Before,
-    binder: Binder,
-) -> Beginning
-    requires { (at ≤ length text.now) × (length query.old ≡ most_bytes) × (made ≤ most_bytes) }
-    ensures { (rd : Reader.Readers) → (d : ℕ) → (e : Ends.Ends) → Begun.Begins text.now
-        query.old query.new made rd d e (Begun.binding_variable rd d e (Begun.binding_record binder)
-        behind.now (Answers.kind_is kind) (drop at text.now)) result }
-{
-    match spelling::variable(text, at) {
-        Numeral::Is(v, next) => binding_word(text, query, next, made, v, behind, kind, binder),
-        Numeral::Stuck(place) => Beginning::Stuck(place),
-    }
-}
-
-// The `$` before the variable that is bound.
-fn binding_sign(
-    text: &[u8],
-    query: &mut [u8],
-    at: usize,
-    made: usize,
-    behind: &[u8],
-    kind: Before,
-    binder: Binder,
-) -> Beginning
-    requires { (at ≤ length text.now) × (length query.old ≡ most_bytes) × (made ≤ most_bytes) }
-    ensures { (rd : Reader.Readers) → (d : ℕ) → (e : Ends.Ends) → Begun.Begins text.now
-        query.old query.new made rd d e (Begun.binding_sign rd d e (Begun.binding_record binder)
-        behind.now (Answers.kind_is kind) (drop at text.now)) result }
-{
-    match fixed(text, at, Before::Word, b"$") {
-        Fixed::Past(next) => binding_variable(text, query, next, made, behind, kind, binder),
-        Fixed::Stuck(place) => Beginning::Stuck(place),
-    }
-}
-
-// The rest of `for` or `let`, its variable and the word behind that.
+// The rest of `for` or `let`, its variable and the word behind that, and the record of the binding.
 fn binding(
     text: &[u8],
     query: &mut [u8],
@@ -119,46 +60,47 @@ fn binding(
     made: usize,
     rest: &[u8],
     behind: &[u8],
-    kind: Before,
+    before: Before,
     binder: Binder,
-) -> Beginning
+) -> Result<Beginning, Stuck>
     requires { (at ≤ length text.now) × (length query.old ≡ most_bytes) × (made ≤ most_bytes) }
     ensures { (rd : Reader.Readers) → (d : ℕ) → (e : Ends.Ends) → Begun.Begins text.now
         query.old query.new made rd d e (Begun.binding_part rd d e (Begun.binding_record binder)
-        rest.now behind.now (Answers.kind_is kind) (drop at text.now)) result }
+        rest.now behind.now (Answers.kind_is before) (drop at text.now)) result }
 {
-    match word(text, at, rest) {
-        Fixed::Past(next) => binding_sign(text, query, next, made, behind, kind, binder),
-        Fixed::Stuck(place) => Beginning::Stuck(place),
-    }
+    let begun = word(text, at, rest)?;
+    let signed = fixed(text, begun, Before::Word, b"$")?;
+    let v = spelling::variable(text, signed)?;
+    let from = fixed(text, v.next, Before::Name, behind)?;
+    let to = add_binding(query, made, binder, v.what);
+    Ok(Beginning::Binding {
+        from,
+        made: to,
+        before,
+    })
 }
 
 // The rest of `if`, up to its condition.
-fn choice(text: &[u8], query: &mut [u8], at: usize, made: usize) -> Beginning
+fn choice(text: &[u8], query: &mut [u8], at: usize, made: usize) -> Result<Beginning, Stuck>
     requires { (at ≤ length text.now) × (length query.old ≡ most_bytes) × (made ≤ most_bytes) }
     ensures { (rd : Reader.Readers) → (d : ℕ) → (e : Ends.Ends) → Begun.Begins text.now
         query.old query.new made rd d e
         (Begun.choice_part rd d e (drop at text.now)) result }
 {
-    match opened(text, at, b"f") {
-        Fixed::Past(from) => {
-            let to = add_if(query, made);
-            Beginning::Choice(from, to)
-        }
-        Fixed::Stuck(place) => Beginning::Stuck(place),
-    }
+    let from = opened(text, at, b"f")?;
+    let to = add_if(query, made);
+    Ok(Beginning::Choice { from, made: to })
 }
 
 // `for` and `false` begin alike.
-fn for_or_false(text: &[u8], query: &mut [u8], at: usize, made: usize) -> Beginning
+fn for_or_false(text: &[u8], query: &mut [u8], at: usize, made: usize) -> Result<Beginning, Stuck>
     requires { (at ≤ length text.now) × (length query.old ≡ most_bytes) × (made ≤ most_bytes) }
     ensures { (rd : Reader.Readers) → (d : ℕ) → (e : Ends.Ends) → Begun.Begins text.now
         query.old query.new made rd d e
         (Begun.for_part rd d e (drop at text.now)) result }
 {
-    let b = byte(text, at);
-    if b == b'o' as usize {
-        return binding(
+    match byte(text, at) {
+        111 => binding(
             text,
             query,
             at + 1,
@@ -167,20 +109,22 @@ fn for_or_false(text: &[u8], query: &mut [u8], at: usize, made: usize) -> Beginn
             b"in",
             Before::Word,
             Binder::For,
-        );
+        ), // b'o'
+        _ => Ok(Beginning::Sides {
+            from: at,
+            begun: true,
+        }),
     }
-    Beginning::Sides(at, true)
 }
 
 // A Single, past the spaces.
-fn single_word(text: &[u8], query: &mut [u8], at: usize, made: usize) -> Beginning
+fn single_word(text: &[u8], query: &mut [u8], at: usize, made: usize) -> Result<Beginning, Stuck>
     requires { (at ≤ length text.now) × (length query.old ≡ most_bytes) × (made ≤ most_bytes) }
     ensures { (rd : Reader.Readers) → (d : ℕ) → (e : Ends.Ends) → Begun.Begins text.now
         query.old query.new made rd d e
         (Begun.single_word rd d e (drop at text.now)) result }
 {
-    let b = byte(text, at);
-    match b {
+    match byte(text, at) {
         102 => for_or_false(text, query, at + 1, made), // b'f'
         108 => binding(
             text,
@@ -193,19 +137,26 @@ fn single_word(text: &[u8], query: &mut [u8], at: usize, made: usize) -> Beginni
             Binder::Let,
         ), // b'l'
         105 => choice(text, query, at + 1, made), // b'i'
-        _ => Beginning::Sides(at, false),
+        _ => Ok(Beginning::Sides {
+            from: at,
+            begun: false,
+        }),
     }
 }
 
 // How a Single begins.
-pub fn single(text: &[u8], query: &mut [u8], at: usize, made: usize, before: Before) -> Beginning
+pub fn single(
+    text: &[u8],
+    query: &mut [u8],
+    at: usize,
+    made: usize,
+    before: Before,
+) -> Result<Beginning, Stuck>
     requires { (at ≤ length text.now) × (length query.old ≡ most_bytes) × (made ≤ most_bytes) }
     ensures { (rd : Reader.Readers) → (d : ℕ) → (e : Ends.Ends) → Begun.Begins text.now
         query.old query.new made rd d e
         (Reader.read_single rd d e (Answers.kind_is before) (drop at text.now)) result }
 {
-    match enter(text, at, before) {
-        Fixed::Past(from) => single_word(text, query, from, made),
-        Fixed::Stuck(place) => Beginning::Stuck(place),
-    }
+    let from = enter(text, at, before)?;
+    single_word(text, query, from, made)
 }

@@ -41,7 +41,7 @@ pub fn into_body(
     requires { PenRoom pen 16 }
     ensures { IntoBody (parse depth query.now at) v own map tables plan.old pen plan.new result }
 {
-    let others = lifting::without(query_walks::free(query, at, depth), v);
+    let others = lifting::hold(query_walks::free(query, at, depth), v, false);
     let lifted = lifting::lift(plan, pen, tables, others, map, 4);
     let outer = lifted.tables;
     let inner = lifting::hold(outer, v, own);

@@ -22,8 +22,8 @@ use Rattle.doc_rows.proofs.FieldLaws.{level_field}
 use Rattle.doc_rows.proofs.Rows.{rows_end, rows_over, rows_next, passed}
 use Rattle.doc_rows.proofs.Sizes.{deeper_zero, deeper_none, deeper_more}
 use Rattle.catalogue.specs.Answers.{answered, counted}
-use Rattle.catalogue.specs.declared.Checked.{Checked}
-use Rattle.catalogue.specs.declared.Checked.TheVariants.{Rows, Unsound}
+use Rattle.std.specs.Prelude.{Result, Ok, Err}
+use Rattle.codes.specs.declared.refusals.Refusal.{Refusal}
 
 -- of n rows at most
 module _ (doc : List ℕ) (r most : ℕ) where
@@ -100,17 +100,18 @@ module _ (doc : List ℕ) (n : ℕ) where
       exact_on h k = exact h ∙ rw (← read, ← count, eq-eqb s d k)
 
 module _ (doc : List ℕ) where
-  abbrev RowsRead : Checked → Type 0
+  abbrev RowsRead : Result ℕ Refusal → Type 0
   RowsRead a = counted a ≡ rows_sound 2048 doc 0 0
 
-  pub check_bad : (p : ℕ) → RowsRead (Unsound p) → answered (Unsound p) ≡ catalogue_call doc
+  pub check_bad : (r : Refusal) → RowsRead (Err r) → answered (Err r) ≡ catalogue_call doc
   unfolding counted answered catalogue_call catalogue_answer catalogue_read reading
-  check_bad p e = rw (← e)
+  check_bad r e = rw (← e)
 
-  pub check_on : (n : ℕ) → RowsRead (Rows n) → catalogue_answer (sizes_exact (catalogue_of doc n) 0 n) ≡ catalogue_call doc
+  pub check_on :
+      (n : ℕ) → RowsRead (Ok n) → catalogue_answer (sizes_exact (catalogue_of doc n) 0 n) ≡ catalogue_call doc
   unfolding counted catalogue_call catalogue_read reading
   check_on n e = rw (← e)
 
-  pub check_rows : (n : ℕ) → RowsRead (Rows n) → 10 * n ≤ length doc
+  pub check_rows : (n : ℕ) → RowsRead (Ok n) → 10 * n ≤ length doc
   unfolding counted
   check_rows n e = omega (arith, (passed 2048 doc 0 0 n (omega arith) (sym e)).whole)

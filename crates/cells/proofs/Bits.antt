@@ -3,23 +3,20 @@
 --     twice_half                 a width has twice as many patterns as half
 --     signed_low, signed_high    the patterns below half are themselves, the others are negative
 --     signed_in                  a signed number is in its width's range
---     one_below                  what stands n below -1
---     low_bits, high_bits        how code makes a signed number of a pattern of either half
---     high_low, high_fits        what it makes on the way fits the width
---     bits_below, bits_from      the bits of a number below 0, counted down from -1, and of one from 0 on
+--     as_signed, read_signed     the bits of a width as a signed number, and that number read back
+--     unsigned_is                the bits of a cell as a number
 --     bits_same                  two numbers of a width have the same bits exactly where they are the same
 use mathlib.Core.Path.{◌≡◌, refl, sym, ◌∙◌, ap, subst}
-use Prim.Native.Nat.{ℕ, zero, suc, ◌+◌, ◌-◌, ◌^◌, ◌<◌, ◌≤◌}
-use native.Mathlib.Nat.{zero-add}
+use Prim.Native.Nat.{ℕ, suc, ◌+◌, ◌-◌, ◌^◌, ◌<◌, ◌≤◌}
 use native.Mathlib.Omega.{arith}
-use mathlib.Core.Bool.{Bool, true, false, true≢false}
+use mathlib.Core.Bool.{Bool, true, false}
 use lib.Dec.{ltb, eqb}
-use lib.IntN.{ℤ, pos, negsuc, ◌-ℤ◌}
-use lib.Signed.{mag, lt_z}
+use lib.IntN.{ℤ, pos, negsuc}
+use lib.Signed.{mag}
 use mir.Syntax.{Width, w8, w16, w32, w64, w128}
 use mir.Val.{bits, hbits, of_z, to_z, SFits}
 use mir.Facts.{to_z_pos, to_z-of_z}
-use borrow.Author.Tests.{lt-ltb, le-ltb, ne_eqb, ltb-true, ltb-false, lt-leb}
+use borrow.Author.Tests.{lt-ltb, le-ltb, ne_eqb, ltb-true, ltb-false}
 use Rattle.cells.specs.Bytes.{signed, bits8}
 use Rattle.cells.specs.Cell.{same}
 use Rattle.cells.proofs.Tests.{eqb_same}
@@ -51,26 +48,35 @@ signed_in half u h = by_test (ltb u half) refl
         let k : half ≤ u = ltb-false u half e in
         rw (signed_high half u k) (omega arith)
 
-pub one_below : (n : ℕ) → negsuc 0 -ℤ pos n ≡ negsuc n
-one_below zero = refl
-one_below (suc n) = ap (λ (k : ℕ). negsuc (suc k)) (zero-add n)
+-- the bits of a width, as a signed number
+pub as_signed : (w : Width) (u : ℕ) → u < 2 ^ bits w → to_z w u ≡ signed (2 ^ hbits w) u
+as_signed w u h = by_test (ltb u (2 ^ hbits w)) refl
+  where
+    by_test : (t : Bool) → ltb u (2 ^ hbits w) ≡ t → to_z w u ≡ signed (2 ^ hbits w) u
+    by_test true e =
+        let k : u < 2 ^ hbits w = ltb-true u _ e in
+        to_z_pos w k ∙ sym (signed_low _ u k)
+    by_test false e =
+        let k : 2 ^ hbits w ≤ u = ltb-false u _ e in
+        let m = 2 ^ bits w - 1 - u in
+        let back : u ≡ 2 ^ bits w - suc m = omega arith in
+        ap (to_z w) back
+        ∙ to_z-of_z {w = w} {z = negsuc m} (record { sfits = omega (arith, twice_half w) })
+        ∙ ap (λ (n : ℕ). negsuc (n - 1 - u)) (twice_half w)
+        ∙ sym (signed_high _ u k)
 
-pub low_bits : (w : Width) {u : ℕ} → u < 2 ^ hbits w → to_z w u ≡ signed (2 ^ hbits w) u
-low_bits w h = to_z_pos w h ∙ sym (signed_low _ _ h)
+-- what was made a signed number, read back from its bits
+pub read_signed : (w : Width) {z : ℤ} (u : ℕ) → u < 2 ^ bits w → z ≡ to_z w u → to_z w (of_z w z) ≡ signed (2 ^ hbits w) u
+read_signed w u h e =
+    let is = e ∙ as_signed w u h in
+    rw is (read_back w (signed_in _ u (subst (λ (n : ℕ). u < n) (twice_half w) h)))
 
-module _ (w : Width) {u : ℕ} (h : 2 ^ hbits w ≤ u) (k : u < 2 ^ bits w) where
-  pub high_low : 2 ^ bits w - 1 - u < 2 ^ hbits w
-  high_low = omega (arith, twice_half w)
-
-  pub high_bits : negsuc 0 -ℤ to_z w (2 ^ bits w - 1 - u) ≡ signed (2 ^ hbits w) u
-  high_bits =
-      ap (λ (z : ℤ). negsuc 0 -ℤ z) (to_z_pos w high_low)
-      ∙ one_below _
-      ∙ ap (λ (n : ℕ). negsuc (n - 1 - u)) (twice_half w)
-      ∙ sym (signed_high _ u h)
-
-  pub high_fits : SFits w (negsuc 0 -ℤ to_z w (2 ^ bits w - 1 - u))
-  high_fits = rw high_bits (record { sfits = signed_in _ u (subst (λ (n : ℕ). u < n) (twice_half w) k) })
+pub unsigned_is : (z : ℤ) → of_z w64 z ≡ bits8 z
+unfolding bits8
+unsigned_is (pos n) = refl
+unsigned_is (negsuc n) =
+    let e : 2 ^ 64 - suc n ≡ 0xffff_ffff_ffff_ffff - n = omega arith in
+    e
 
 pub bits_same : (w : Width) (a b : ℤ) → SFits w a → SFits w b → eqb (of_z w a) (of_z w b) ≡ same a b
 unfolding same
@@ -79,22 +85,3 @@ bits_same w (pos a) (negsuc b) h k = ne_eqb a _ (omega (arith, twice_half w, h.s
 bits_same w (negsuc a) (pos b) h k = ne_eqb _ b (omega (arith, twice_half w, h.sfits, k.sfits))
 bits_same w (negsuc a) (negsuc b) h k =
     eqb_same _ _ a b (λ e. omega (arith, twice_half w, h.sfits, k.sfits)) (λ e. ap (λ (n : ℕ). 2 ^ bits w - suc n) e)
-
-one_above : (n : ℕ) → negsuc 0 -ℤ negsuc n ≡ pos n
-one_above n =
-    let e : suc n - 1 ≡ n = omega arith in
-    rw (lt-leb (suc (suc n)) 1 (omega arith)) (ap pos e)
-
-pub bits_below :
-    (z : ℤ) → lt_z z (pos 0) ≡ true → mag z < 2 ^ 63 →
-    (n : ℕ) × (negsuc 0 -ℤ z ≡ pos n) × (n < 2 ^ 63) × (0xffff_ffff_ffff_ffff - n ≡ bits8 z)
-unfolding bits8
-bits_below (pos n) e h =
-    let k : n < 0 = ltb-true n 0 e in
-    absurd (omega arith)
-bits_below (negsuc n) e h = (n, one_above n, h, refl)
-
-pub bits_from : (z : ℤ) → lt_z z (pos 0) ≡ false → mag z < 2 ^ 63 → (n : ℕ) × (z ≡ pos n) × (n < 2 ^ 63) × (n ≡ bits8 z)
-unfolding bits8
-bits_from (pos n) e h = (n, refl, h, refl)
-bits_from (negsuc n) e h = absurd (true≢false e)

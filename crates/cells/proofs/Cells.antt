@@ -13,6 +13,7 @@
 --     held_cell_of, cell_of_held            an item's cell holds that item, and no other cell does
 --     held_range                          an integer that a cell holds is in its range
 --     cell_mag                            the cell of a proper item is a signed 64-bit number
+use Rattle.std.specs.Prelude.{Some, None}
 use mathlib.Core.Path.{◌≡◌, refl, sym, ◌∙◌, ap, subst}
 use mathlib.Core.Bool.{Bool, true, false, not, true≢false, false≢true}
 use mathlib.Core.Logic.{◌⊎◌, inl, inr, ⊎_elim}
@@ -24,8 +25,6 @@ use lib.Signed.{mag, lt_z, ◌<ℤ◌, ◌≤ℤ◌, le_z_yes, lt_z_yes, lt_z_no
 use borrow.Author.Tests.{lt-ltb, ltb-true, ltb-false, eqb-true, eq-eqb, eqb-false}
 use Rattle.cells.specs.declared.Item.{Item}
 use Rattle.cells.specs.declared.Item.TheVariants.{Integer, Truth, Node}
-use Rattle.cells.specs.declared.Held.{Held}
-use Rattle.cells.specs.declared.Held.TheVariants as Held
 use Rattle.cells.specs.Cell.{same, before, in_range, held, cell_of, node_cell}
 use Rattle.cells.specs.Small.{Proper}
 use Rattle.cells.proofs.Tests.{leb_same, eqb_same, is_true}
@@ -171,14 +170,14 @@ node_rising r s h = before_node r s ∙ lt-ltb r s h
 pub range_small : (n : ℕ) → n < 0x8000_0000 → in_range (pos n) ≡ true
 range_small n h = mag_range (pos n) h
 
-pub held_cell_of : (i : Item) → Proper i → held (cell_of i) ≡ Held.Item i
+pub held_cell_of : (i : Item) → Proper i → held (cell_of i) ≡ Some i
 unfolding held cell_of
 held_cell_of (Integer z) p = held_integer z p
 held_cell_of (Truth false) p = refl
 held_cell_of (Truth true) p = refl
 held_cell_of (Node r) p =
     held_node (0x2_0000_0000 + r.0) (omega arith)
-    ∙ ap (λ (n : ℕ). Held.Item (Node (record { 0 = n }))) (back r.0)
+    ∙ ap (λ (n : ℕ). Some (Node (record { 0 = n }))) (back r.0)
   where
     back : (n : ℕ) → 0x2_0000_0000 + n - 0x2_0000_0000 ≡ n
     back n = omega arith
@@ -191,15 +190,15 @@ Ranged (Node r) = Unit {0}
 
 -- the item that a cell holds, with what is known of it
 abbrev HoldsItem : ℤ → Type 0
-HoldsItem z = (i : Item) × (held z ≡ Held.Item i) × (cell_of i ≡ z) × Ranged i
+HoldsItem z = (i : Item) × (held z ≡ Some i) × (cell_of i ≡ z) × Ranged i
 
-past_cases : (n : ℕ) → 0x8000_0000 ≤ n → (held (pos n) ≡ Held.Stray) ⊎ HoldsItem (pos n)
+past_cases : (n : ℕ) → 0x8000_0000 ≤ n → (held (pos n) ≡ None) ⊎ HoldsItem (pos n)
 unfolding held cell_of
 past_cases n h =
     by_tests (eqb n 0x1_0000_0000) (eqb n 0x1_0000_0001) (ltb n 0x2_0000_0000) refl refl refl
   where
     by_tests : (f t b : Bool) → eqb n 0x1_0000_0000 ≡ f → eqb n 0x1_0000_0001 ≡ t → ltb n 0x2_0000_0000 ≡ b
-        → (held (pos n) ≡ Held.Stray) ⊎ HoldsItem (pos n)
+        → (held (pos n) ≡ None) ⊎ HoldsItem (pos n)
     by_tests true t b d e k =
         let m = eqb-true n _ d in
         inr (Truth false, ap (λ (x : ℕ). held (pos x)) m, ap pos (sym m), tt)
@@ -213,35 +212,35 @@ past_cases n h =
         let back : 0x2_0000_0000 + (n - 0x2_0000_0000) ≡ n = omega arith in
         inr (Node (record { 0 = n - 0x2_0000_0000 }), held_node n m, ap pos back, tt)
 
-holds_cases : (z : ℤ) → (held z ≡ Held.Stray) ⊎ HoldsItem z
+holds_cases : (z : ℤ) → (held z ≡ None) ⊎ HoldsItem z
 unfolding cell_of
 holds_cases z = by_tests (in_range z) (lt_z z (pos 0)) refl refl
   where
-    by_tests : (s t : Bool) → in_range z ≡ s → lt_z z (pos 0) ≡ t → (held z ≡ Held.Stray) ⊎ HoldsItem z
+    by_tests : (s t : Bool) → in_range z ≡ s → lt_z z (pos 0) ≡ t → (held z ≡ None) ⊎ HoldsItem z
     by_tests true t d e = inr (Integer z, held_integer z d, refl, d)
     by_tests false true d e = inl (held_negative z d e)
     by_tests false false d e =
         let p = past_range z d e in
-        subst (λ (x : ℤ). (held x ≡ Held.Stray) ⊎ HoldsItem x) (sym p.1) (past_cases p.0 p.2)
+        subst (λ (x : ℤ). (held x ≡ None) ⊎ HoldsItem x) (sym p.1) (past_cases p.0 p.2)
 
-holds_item : (z : ℤ) (i : Item) → held z ≡ Held.Item i → (cell_of i ≡ z) × Ranged i
+holds_item : (z : ℤ) (i : Item) → held z ≡ Some i → (cell_of i ≡ z) × Ranged i
 holds_item z i e = ⊎_elim none some (holds_cases z)
   where
-    none : held z ≡ Held.Stray → (cell_of i ≡ z) × Ranged i
+    none : held z ≡ None → (cell_of i ≡ z) × Ranged i
     none d =
         let clash : ◌≡◌ {A = ℕ} 0 1 = cc in
         absurd (omega arith)
 
     some : HoldsItem z → (cell_of i ≡ z) × Ranged i
     some p =
-        let q : Held.Item p.0 ≡ Held.Item i = sym p.1 ∙ e in
+        let q : Some p.0 ≡ Some i = sym p.1 ∙ e in
         let j : p.0 ≡ i = cc in
         subst (λ (x : Item). (cell_of x ≡ z) × Ranged x) j (p.2, p.3)
 
-pub cell_of_held : (z : ℤ) (i : Item) → held z ≡ Held.Item i → cell_of i ≡ z
+pub cell_of_held : (z : ℤ) (i : Item) → held z ≡ Some i → cell_of i ≡ z
 cell_of_held z i e = (holds_item z i e).0
 
-pub held_range : (z w : ℤ) → held z ≡ Held.Item (Integer w) → in_range w ≡ true
+pub held_range : (z w : ℤ) → held z ≡ Some (Integer w) → in_range w ≡ true
 held_range z w e = (holds_item z (Integer w) e).1
 
 pub cell_mag : (i : Item) → Proper i → mag (cell_of i) < 2 ^ 63

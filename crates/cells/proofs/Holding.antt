@@ -7,6 +7,7 @@
 --     held_integer              a cell in the range holds the integer
 --     held_below                a cell below the integers holds no item
 --     held_stray, held_node     what a cell past the integers holds
+use Rattle.std.specs.Prelude.{Some, None}
 use mathlib.Core.Path.{◌≡◌, refl, sym}
 use mathlib.Core.Bool.{true, false, true≢false, false≢true}
 use Prim.Native.Nat.{ℕ, ◌-◌, ◌<◌, ◌≤◌}
@@ -15,7 +16,6 @@ use lib.IntN.{ℤ, pos, negsuc}
 use lib.Signed.{lt_z, mag}
 use borrow.Author.Tests.{lt-ltb, le-ltb, le-leb, lt-leb, ne_eqb, ltb-true, ltb-false}
 use Rattle.cells.specs.declared.Item.TheVariants.{Integer, Node}
-use Rattle.cells.specs.declared.Held.TheVariants as Held
 use Rattle.cells.specs.Cell.{in_range, held}
 
 pub range_mag : (z : ℤ) → in_range z ≡ true → mag z < 0x8000_0000
@@ -42,19 +42,19 @@ from_range (negsuc n) e =
     let h : n ≤ 0x7fff_ffff = ltb-false 0x7fff_ffff n e in
     sym (lt-ltb n 0x8000_0000 (omega arith))
 
-pub held_integer : (z : ℤ) → in_range z ≡ true → held z ≡ Held.Item (Integer z)
+pub held_integer : (z : ℤ) → in_range z ≡ true → held z ≡ Some (Integer z)
 unfolding in_range held
 held_integer (pos n) e = rw e
 held_integer (negsuc n) e = rw e
 
-pub held_below : (z : ℤ) → lt_z z (negsuc 0x7fff_ffff) ≡ true → held z ≡ Held.Stray
+pub held_below : (z : ℤ) → lt_z z (negsuc 0x7fff_ffff) ≡ true → held z ≡ None
 unfolding held
 held_below (pos n) e = absurd (false≢true e)
 held_below (negsuc n) e =
     let h : 0x7fff_ffff < n = ltb-true 0x7fff_ffff n e in
     rw (le-ltb n 0x8000_0000 (omega arith))
 
-pub held_negative : (z : ℤ) → in_range z ≡ false → lt_z z (pos 0) ≡ true → held z ≡ Held.Stray
+pub held_negative : (z : ℤ) → in_range z ≡ false → lt_z z (pos 0) ≡ true → held z ≡ None
 unfolding in_range held
 held_negative (pos n) e f =
     let k : n < 0 = ltb-true n 0 f in
@@ -72,11 +72,11 @@ from_here m (negsuc n) e = absurd (true≢false e)
 
 module _ (n : ℕ) where
   pub held_stray : 0x8000_0000 ≤ n → (n ≡ 0x1_0000_0000 → ⊥) → (n ≡ 0x1_0000_0001 → ⊥) → n < 0x2_0000_0000
-      → held (pos n) ≡ Held.Stray
+      → held (pos n) ≡ None
   unfolding held
   held_stray h f t k = rw (le-ltb n _ h, ne_eqb n _ f, ne_eqb n _ t, lt-leb _ n k)
 
-  pub held_node : 0x2_0000_0000 ≤ n → held (pos n) ≡ Held.Item (Node (record { 0 = n - 0x2_0000_0000 }))
+  pub held_node : 0x2_0000_0000 ≤ n → held (pos n) ≡ Some (Node (record { 0 = n - 0x2_0000_0000 }))
   unfolding held
   held_node h =
       rw (

@@ -6,12 +6,10 @@
 --     inRange z              z is one of the integers, -2147483648 to 2147483647
 --     held z                 the item that a cell holds, or that it is no item's cell
 --     same a b, before a b   equality and order of cells, as signed 64-bit numbers
-use Rattle.std.specs.Prelude.{ℕ, ◌+◌, ◌-◌, Bool, true, false, cond, ltb, leb, eqb, ℤ, pos, negsuc}
+use Rattle.std.specs.Prelude.{ℕ, ◌+◌, ◌-◌, Bool, true, false, cond, ltb, leb, eqb, ℤ, pos, negsuc, Option, Some, None}
 use Rattle.std.specs.Int.Signed.{lt_z}
 use Rattle.cells.specs.declared.Item.{Item}
 use Rattle.cells.specs.declared.Item.TheVariants.{Integer, Truth, Node}
-use Rattle.cells.specs.declared.Held.{Held}
-use Rattle.cells.specs.declared.Held.TheVariants as Held
 
 abbrev pub false_cell : ℤ
 false_cell = pos 0x1_0000_0000
@@ -44,10 +42,10 @@ same (negsuc a) (negsuc b) = eqb a b
 unfoldable pub before : ℤ → ℤ → Bool
 before a b = lt_z a b
 
-unfoldable pub held : ℤ → Held
-held (negsuc n) = cond (ltb n 0x8000_0000) (Held.Item (Integer (negsuc n))) Held.Stray
+unfoldable pub held : ℤ → Option Item
+held (negsuc n) = cond (ltb n 0x8000_0000) (Some (Integer (negsuc n))) None
 held (pos n) =
-    cond (ltb n 0x8000_0000) (Held.Item (Integer (pos n)))
-    (cond (eqb n 0x1_0000_0000) (Held.Item (Truth false))
-    (cond (eqb n 0x1_0000_0001) (Held.Item (Truth true))
-    (cond (leb 0x2_0000_0000 n) (Held.Item (Node (record { 0 = n - 0x2_0000_0000 }))) Held.Stray)))
+    cond (ltb n 0x8000_0000) (Some (Integer (pos n)))
+    (cond (eqb n 0x1_0000_0000) (Some (Truth false))
+    (cond (eqb n 0x1_0000_0001) (Some (Truth true))
+    (cond (leb 0x2_0000_0000 n) (Some (Node (record { 0 = n - 0x2_0000_0000 }))) None)))

@@ -13,20 +13,6 @@ pub enum Item {
     Node(Rank),
 }
 
-// What a cell holds. Every cell that an engine writes holds an item.
-#[derive(Clone, Copy)]
-pub enum Held {
-    Item(Item),
-    Stray,
-}
-
-// What arithmetic gives: an integer, or none where the divisor is zero or the result is outside the range.
-#[derive(Clone, Copy)]
-pub enum Number {
-    Is(i32),
-    Refused,
-}
-
 ghost use Rattle.std.specs.Prelude.{◌≡◌, ◌+◌, ◌≤◌, ◌<◌, pos, ◌+ℤ◌, ◌-ℤ◌, ◌*ℤ◌, length};
 ghost use Rattle.std.specs.Int.Signed.{lt_z};
 ghost use Rattle.cells.specs.Bytes;
@@ -38,11 +24,7 @@ ghost use Rattle.cells.specs.Arithmetic.{number_of, quotient_of};
 pub fn fits(s: &[u8], at: usize, n: usize) -> bool
     ensures { result ≡ Bytes.fits s.now at n }
 {
-    if at <= s.len() {
-        n <= s.len() - at
-    } else {
-        false
-    }
+    at <= s.len() && n <= s.len() - at
 }
 
 // The byte at an offset.
@@ -50,10 +32,11 @@ pub fn byte(s: &[u8], at: usize) -> usize
     requires { at < length s.now }
     ensures { (result ≡ Bytes.byte_at s.now at) × (result < 256) }
 {
-    s[at] as usize
+    usize::from(s[at])
 }
 
 // The two bytes from an offset on, as one number.
+// As it is: (d) an array of the bytes, each named, for `from_be_bytes` is no plainer than two halves, here and below.
 pub fn word2(s: &[u8], at: usize) -> usize
     requires { at + 2 ≤ length s.now }
     ensures { (result ≡ Bytes.word s.now at 2) × (result < 65536) }
@@ -96,12 +79,7 @@ pub fn int4(s: &[u8], at: usize) -> i32
     requires { at + 4 ≤ length s.now }
     ensures { result ≡ Bytes.int4 s.now at }
 {
-    let u = word4(s, at);
-    if u < 0x8000_0000 {
-        u as i32
-    } else {
-        -1 - ((0xffff_ffff - u) as i32)
-    }
+    (word4(s, at) as u32).cast_signed()
 }
 
 // The eight bytes from an offset on, signed.
@@ -109,26 +87,18 @@ pub fn int8(s: &[u8], at: usize) -> i64
     requires { at + 8 ≤ length s.now }
     ensures { result ≡ Bytes.int8 s.now at }
 {
-    let u = word8(s, at);
-    if u < 0x8000_0000_0000_0000 {
-        u as i64
-    } else {
-        -1 - ((0xffff_ffff_ffff_ffff - u) as i64)
-    }
+    (word8(s, at) as u64).cast_signed()
 }
 
 // The 64 bits of a cell, as a number.
 pub fn bits_of(cell: i64) -> usize
     ensures { result ≡ Bytes.bits8 cell }
 {
-    if cell < 0 {
-        0xffff_ffff_ffff_ffff - ((-1 - cell) as usize)
-    } else {
-        cell as usize
-    }
+    cell.cast_unsigned() as usize
 }
 
 // Equality of cells.
+// As it is, with the three like it: (a) the word of the clauses, Cell.same, has this one place in code.
 pub fn same(a: i64, b: i64) -> bool
     ensures { result ≡ Cell.same a b }
 {
@@ -140,17 +110,6 @@ pub fn before(a: i64, b: i64) -> bool
     ensures { result ≡ Cell.before a b }
 {
     a < b
-}
-
-// Whether a number is one of the integers.
-pub fn in_range(z: i64) -> bool
-    ensures { result ≡ Cell.in_range z }
-{
-    if z < -2147483648 {
-        false
-    } else {
-        z < 2147483648
-    }
 }
 
 // The cell of a boolean.
@@ -174,66 +133,51 @@ pub fn cell_of(item: Item) -> i64
     ensures { result ≡ Cell.cell_of item }
 {
     match item {
-        Item::Integer(z) => z as i64,
+        Item::Integer(z) => i64::from(z),
         Item::Truth(b) => truth_cell(b),
         Item::Node(r) => node_cell(r),
     }
 }
 
 // The item that a cell holds.
-pub fn item_of(cell: i64) -> Held
+pub fn item_of(cell: i64) -> Option<Item>
     ensures { result ≡ Cell.held cell }
 {
     match cell {
-        -0x8000_0000..=0x7fff_ffff => Held::Item(Item::Integer(cell as i32)),
-        0x1_0000_0000 => Held::Item(Item::Truth(false)),
-        0x1_0000_0001 => Held::Item(Item::Truth(true)),
-        0x2_0000_0000..=0x7fff_ffff_ffff_ffff => Held::Item(Item::Node(Rank(
+        -0x8000_0000..=0x7fff_ffff => Some(Item::Integer(cell as i32)),
+        0x1_0000_0000 => Some(Item::Truth(false)),
+        0x1_0000_0001 => Some(Item::Truth(true)),
+        0x2_0000_0000..=0x7fff_ffff_ffff_ffff => Some(Item::Node(Rank(
             (cell as usize) - 0x2_0000_0000,
         ))),
-        _ => Held::Stray,
+        _ => None,
     }
 }
 
-// A number, cut back to the integers.
-fn number_of(z: i64) -> Number
-    ensures { result ≡ number_of z }
-{
-    if in_range(z) {
-        Number::Is(z as i32)
-    } else {
-        Number::Refused
-    }
-}
-
-// The four operations are worked out in 64 bits, where none can pass the range.
-pub fn sum(x: i32, y: i32) -> Number
+// The four operations: none where the result is outside the integers' range.
+pub fn sum(x: i32, y: i32) -> Option<i32>
     ensures { result ≡ number_of (x +ℤ y) }
 {
-    number_of((x as i64) + (y as i64))
+    x.checked_add(y)
 }
 
-pub fn difference(x: i32, y: i32) -> Number
+pub fn difference(x: i32, y: i32) -> Option<i32>
     ensures { result ≡ number_of (x -ℤ y) }
 {
-    number_of((x as i64) - (y as i64))
+    x.checked_sub(y)
 }
 
-pub fn product(x: i32, y: i32) -> Number
+pub fn product(x: i32, y: i32) -> Option<i32>
     ensures { result ≡ number_of (x *ℤ y) }
 {
-    number_of((x as i64) * (y as i64))
+    x.checked_mul(y)
 }
 
-// The quotient, cut toward zero.
-pub fn quotient(x: i32, y: i32) -> Number
+// The quotient, cut toward zero; none by zero.
+pub fn quotient(x: i32, y: i32) -> Option<i32>
     ensures { result ≡ quotient_of x y }
 {
-    if y == 0 {
-        Number::Refused
-    } else {
-        number_of((x as i64) / (y as i64))
-    }
+    x.checked_div(y)
 }
 
 pub fn less(x: i32, y: i32) -> bool

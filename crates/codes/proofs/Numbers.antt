@@ -1,15 +1,12 @@
--- Numbers that name nothing, tests whose name fits, and numbers that read back.
---     axis_none, function_none, test_none     a number that a `match` found to be none of the known ones
+-- Numbers that were read, tests whose name fits, and numbers that read back.
+--     tried_read    what was read, taken as an option
 --     axis_back, function_back, test_back     the number of each is read as itself
 --     name_fits     a test that is read has a name of two bytes, as its record has
 use Prim.Native.Nat.{ℕ, ◌<◌}
 use mathlib.Core.Path.{◌≡◌, refl}
-use mathlib.Core.Bool.{Bool, true, false}
-use mathlib.Core.List.{[], ◌∷◌}
-use borrow.Author.Tests.{ne_eqb}
 use lib.Dec.{eqb}
 use native.Mathlib.Omega.{arith}
-use Rattle.laws.specs.Attempt.{fails, gives, provided, Given}
+use Rattle.laws.specs.Attempt.{gives, provided, tried, Given}
 use Rattle.laws.proofs.Outcomes.{given_fails, given_gives, given_cond, given_provided}
 use Rattle.codes.specs.declared.Function.{Function}
 use Rattle.codes.specs.declared.Function.TheVariants.{Add, Subtract, Multiply, Divide, Equal, Less}
@@ -19,36 +16,14 @@ use Rattle.codes.specs.declared.Axis.TheVariants.{Ancestor, Following, Preceding
 use Rattle.codes.specs.declared.Test.{Test}
 use Rattle.codes.specs.declared.Test.TheVariants.{AnyNode, Element, Text, Named}
 use Rattle.codes.specs.Codes.{function_of, function_number, axis_of, axis_number, test_of, test_number, test_name}
-use Rattle.codes.specs.Codes.{NoneOf}
+use Rattle.codes.specs.Codes.{read}
+use Rattle.codes.specs.declared.UnknownCode.{UnknownCode}
+use Rattle.std.specs.Prelude.{Result, Ok, Err}
+use Rattle.std.specs.Result.{result_ok}
 
-pub axis_none : (n : ℕ) → NoneOf n (0 ∷ 8 ∷ 7 ∷ 6 ∷ 5 ∷ 4 ∷ 3 ∷ 2 ∷ 1 ∷ []) → axis_of n ≡ fails
-unfolding axis_of
-axis_none n (((((((((h, a), b), c), d), e), f), g), i), z) =
-    simp (
-      ne_eqb n 1 a,
-      ne_eqb n 2 b,
-      ne_eqb n 3 c,
-      ne_eqb n 4 d,
-      ne_eqb n 5 e,
-      ne_eqb n 6 f,
-      ne_eqb n 7 g,
-      ne_eqb n 8 i,
-    )
-
-pub function_none : (n : ℕ) → NoneOf n (0 ∷ 6 ∷ 5 ∷ 4 ∷ 3 ∷ 2 ∷ 1 ∷ []) → function_of n ≡ fails
-unfolding function_of
-function_none n (((((((h, a), b), c), d), e), f), z) =
-    simp (ne_eqb n 1 a, ne_eqb n 2 b, ne_eqb n 3 c, ne_eqb n 4 d, ne_eqb n 5 e, ne_eqb n 6 f)
-
-provided_fails : {A : Type 0} (t : Bool) → provided {A = A} t fails ≡ fails
-unfolding provided
-provided_fails true = refl
-provided_fails false = refl
-
-pub test_none : (n name : ℕ) → NoneOf n (3 ∷ 2 ∷ 1 ∷ 0 ∷ []) → test_of n name ≡ fails
-unfolding test_of
-test_none n name ((((h, a), b), c), d) =
-    simp (ne_eqb n 0 a, ne_eqb n 1 b, ne_eqb n 2 c, ne_eqb n 3 d) (provided_fails (eqb name 0))
+pub tried_read : {A : Type 0} (r : Result A UnknownCode) → tried (result_ok r) ≡ read r
+tried_read (Ok a) = refl
+tried_read (Err e) = refl
 
 pub name_fits : (n name : ℕ) → name < 65536 → Given (λ (y : Test). test_name y < 65536) (test_of n name)
 unfolding test_of test_name

@@ -4,9 +4,13 @@
 --     function_number f, axis_number x, test_number t    the number of a function, an axis, a test
 --     test_name t                 the name that a test asks for, 0 where it asks for none
 --     function_field, axis_field, test_field    what the code found in a field, or failing
+--     read r                     what was read from a number, or failing
+--     FunctionRead n r, AxisRead n r    r is what function_of, axis_of say of n
+--     FunctionNumbered f n, AxisNumbered x n    n is the number of f, of x
 --     NoneOf n ks                n is none of the numbers ks, which a `match` tried from the last to the first
-use Rattle.std.specs.Prelude.{ℕ, ◌≡◌, cond, List, [], ◌∷◌, eqb}
-use Rattle.laws.specs.Attempt.{Attempt, fails, gives, provided}
+use Rattle.std.specs.Prelude.{ℕ, ◌≡◌, cond, List, [], ◌∷◌, eqb, Option, Result, Ok, Err}
+use Rattle.laws.specs.Attempt.{Attempt, fails, gives, tried, provided}
+use Rattle.codes.specs.declared.UnknownCode.{UnknownCode}
 use Rattle.codes.specs.declared.Function.{Function}
 use Rattle.codes.specs.declared.Function.TheVariants.{Add, Subtract, Multiply, Divide, Equal, Less}
 use Rattle.codes.specs.declared.Axis.{Axis}
@@ -14,12 +18,6 @@ use Rattle.codes.specs.declared.Axis.TheVariants.{Child, Descendant, DescendantO
 use Rattle.codes.specs.declared.Axis.TheVariants.{Parent, Ancestor, Following, Preceding}
 use Rattle.codes.specs.declared.Test.{Test}
 use Rattle.codes.specs.declared.Test.TheVariants.{AnyNode, Element, Text, Named}
-use Rattle.codes.specs.declared.FunctionField.{FunctionField}
-use Rattle.codes.specs.declared.FunctionField.TheVariants as FunctionField
-use Rattle.codes.specs.declared.AxisField.{AxisField}
-use Rattle.codes.specs.declared.AxisField.TheVariants as AxisField
-use Rattle.codes.specs.declared.TestField.{TestField}
-use Rattle.codes.specs.declared.TestField.TheVariants as TestField
 
 -- 1 add, 2 subtract, 3 multiply, 4 idiv, 5 eq, 6 lt
 unfoldable pub function_of : ℕ → Attempt Function
@@ -83,17 +81,31 @@ test_name Element = 0
 test_name Text = 0
 test_name (Named n) = n
 
-abbrev pub function_field : FunctionField → Attempt Function
-function_field (FunctionField.Is f) = gives f
-function_field FunctionField.Unsound = fails
+abbrev pub function_field : Option Function → Attempt Function
+function_field = tried
 
-abbrev pub axis_field : AxisField → Attempt Axis
-axis_field (AxisField.Is x) = gives x
-axis_field AxisField.Unsound = fails
+abbrev pub axis_field : Option Axis → Attempt Axis
+axis_field = tried
 
-abbrev pub test_field : TestField → Attempt Test
-test_field (TestField.Is t) = gives t
-test_field TestField.Unsound = fails
+abbrev pub test_field : Option Test → Attempt Test
+test_field = tried
+
+-- a number that was read
+abbrev pub read : {A : Type 0} → Result A UnknownCode → Attempt A
+read (Ok a) = gives a
+read (Err e) = fails
+
+abbrev pub FunctionRead : ℕ → Result Function UnknownCode → Type 0
+FunctionRead n r = read r ≡ function_of n
+
+abbrev pub AxisRead : ℕ → Result Axis UnknownCode → Type 0
+AxisRead n r = read r ≡ axis_of n
+
+abbrev pub FunctionNumbered : Function → ℕ → Type 0
+FunctionNumbered f n = n ≡ function_number f
+
+abbrev pub AxisNumbered : Axis → ℕ → Type 0
+AxisNumbered x n = n ≡ axis_number x
 
 abbrev pub NoneOf : ℕ → List ℕ → Type 0
 NoneOf n [] = Unit {0}

@@ -7,8 +7,8 @@ ghost use Rattle.meaning.specs.Operators.{group_of};
 ghost use Rattle.tables.specs.Layout.{table_at, Inside, Owes};
 ghost use Rattle.members.specs.Grouped.{in_front};
 
-use members::cell_at;
-use tables::{Laid, Stand};
+use tables::order::{cell_at, holds};
+use tables::{Laid, Stand, Unlaid};
 
 // A row of two cells.
 pub fn pair(work: &mut [i64], x: i64, y: i64, at: usize, room: usize) -> Laid
@@ -16,11 +16,11 @@ pub fn pair(work: &mut [i64], x: i64, y: i64, at: usize, room: usize) -> Laid
     ensures { Owes room at 2 (gives ((x ∷ y ∷ []) ∷ [])) work.old work.new result }
 {
     if room - at < 2 {
-        return Laid::Full;
+        return Err(Unlaid::Full);
     }
     work[at] = x;
     work[at + 1] = y;
-    Laid::Rows(1)
+    Ok(1)
 }
 
 // How many rows hold the first row's cell of column c. Each row is looked at once.
@@ -31,11 +31,10 @@ pub fn count_rows(work: &[i64], s: Stand, c: usize) -> usize
 {
     let x = cell_at(work, s, c, 0);
     let mut n: usize = 0;
-    let mut i: usize = 0;
-    while i < s.rows {
-        let here = cells::same(x, cell_at(work, s, c, i));
-        n += here as usize;
-        i += 1;
+    for i in 0..s.rows {
+        if holds(work, s, c, i, x) {
+            n += 1;
+        }
     }
     n
 }

@@ -4,6 +4,7 @@
 --     named_stand            the tables that a sound operator names stand
 --     made_none, made_of_lem     the width of its table: it names none, or two
 --     turn_sound             the next operator of an accepted plan is sound for the tables that are listed
+use Rattle.std.specs.Prelude.{Option, Some, None, Result}
 use Prim.Native.Nat.{ℕ, ◌+◌, ◌*◌, ◌≤◌, ◌<◌}
 use mathlib.Core.Path.{◌≡◌, refl, sym, ap, ap₂, ◌∙◌, subst}
 use mathlib.Core.List.{List}
@@ -13,12 +14,10 @@ use lib.ListN.{length, get_or}
 use Rattle.meaning.specs.Operators.{Table, make}
 use Rattle.meaning.specs.Plan.{Placed}
 use Rattle.meaning.specs.World.{World}
-use Rattle.tables.specs.declared.Laid.{Laid}
+use Rattle.tables.specs.declared.Unlaid.{Unlaid}
 use Rattle.tables.specs.Layout.{Owes}
 use Rattle.plan_records.specs.declared.Decoded.{Decoded}
 use Rattle.plan_records.specs.declared.Operator.{Operator}
-use Rattle.plan_widths.specs.declared.TableOperands.{TableOperands}
-use Rattle.plan_widths.specs.declared.TableOperands.TheVariants.{None, Of}
 use Rattle.plans.specs.Accepted.{Turn}
 use Rattle.plan_records.specs.Decoded.{operator_of}
 use Rattle.theorems.specs.PlanRead.{widths_of}
@@ -34,7 +33,7 @@ module _ (o k : Operator) (e : o ≡ k) where
   sound_case plan dir n h = subst (SoundOperator plan dir n) e h
 
   pub owes_case :
-      (room at : ℕ) (plan dir : List ℕ) (w : World) (ts : List Table) (xs ys : List ℤ) (r : Laid) →
+      (room at : ℕ) (plan dir : List ℕ) (w : World) (ts : List Table) (xs ys : List ℤ) (r : Result ℕ Unlaid) →
       Owes room at (made_width dir k) (make w (operator_of plan k) ts) xs ys r →
       Owes room at (made_width dir o) (make w (operator_of plan o) ts) xs ys r
   owes_case room at plan dir w ts xs ys r h =
@@ -51,22 +50,22 @@ listed dir n top t l h =
 
 -- the tables that an operator names stand
 module _ (dir : List ℕ) where
-  abbrev Known : TableOperands → Type 0
+  abbrev Known : Option (ℕ × ℕ) → Type 0
   Known None = Unit {0}
-  Known (Of t u) = (3 * t + 3 ≤ length dir) × (3 * u + 3 ≤ length dir) × (wide dir t ≤ 6) × (wide dir u ≤ 6)
+  Known (Some (t, u)) = (3 * t + 3 ≤ length dir) × (3 * u + 3 ≤ length dir) × (wide dir t ≤ 6) × (wide dir u ≤ 6)
 
   known :
-      (plan : List ℕ) (n top : ℕ) (o : Operator) (q : TableOperands) → ListedTables dir n top → SoundOf plan dir n o q
+      (plan : List ℕ) (n top : ℕ) (o : Operator) (q : Option (ℕ × ℕ)) → ListedTables dir n top → SoundOf plan dir n o q
       → Known q
   unfolding SoundOf
   known plan n top o None l s = tt
-  known plan n top o (Of t u) l s =
+  known plan n top o (Some (t, u)) l s =
       let a = listed dir n top t l s.0 in
       let b = listed dir n top u l s.1 in
       (a.there, b.there, a.high, b.high)
 
-  module _ (o : Operator) (q : TableOperands) (e : q ≡ tables_of o) where
-    pub named_stand : Served dir o → (t u : ℕ) → q ≡ Of t u → Known (Of t u)
+  module _ (o : Operator) (q : Option (ℕ × ℕ)) (e : q ≡ tables_of o) where
+    pub named_stand : Served dir o → (t u : ℕ) → q ≡ Some (t, u) → Known (Some (t, u))
     unfolding Served SoundOperator
     named_stand s t u k = subst Known (sym e ∙ k) (known s.0 s.1 s.2 o (tables_of o) s.3 s.4)
 
@@ -74,7 +73,7 @@ module _ (dir : List ℕ) where
     unfolding made_width made_of
     made_none k = ap (made_of dir o) (sym k ∙ e)
 
-    pub made_of_lem : (t u w v r : ℕ) → q ≡ Of t u → w ≡ wide dir t → v ≡ wide dir u → r ≡ Widths.made_width o w v →
+    pub made_of_lem : (t u w v r : ℕ) → q ≡ Some (t, u) → w ≡ wide dir t → v ≡ wide dir u → r ≡ Widths.made_width o w v →
         r ≡ made_width dir o
     unfolding made_width made_of
     made_of_lem t u w v r k a b h = h ∙ ap₂ (Widths.made_width o) a b ∙ ap (made_of dir o) (sym k ∙ e)
@@ -88,11 +87,11 @@ module _ (plan dir : List ℕ) (n : ℕ) (before rest : List Placed) (at : ℕ) 
   number : length (widths_of before) ≡ n
   number = sym (ap length widths) ∙ length_widths dir n
 
-  sound_of : (q : TableOperands) → tables_of f.operator ≡ q → SoundOf plan dir n f.operator q ×
+  sound_of : (q : Option (ℕ × ℕ)) → tables_of f.operator ≡ q → SoundOf plan dir n f.operator q ×
       (made_of dir f.operator q ≡ k.width)
   unfolding SoundOf made_of
   sound_of None e = (tt, sym (no_table plan (widths_of before) f.operator k.width k.stands k.fits e))
-  sound_of (Of t u) e =
+  sound_of (Some (t, u)) e =
       let g = turn_fitting k t u e in
       let a : t < n = omega (arith, g.first, number) in
       let b : u < n = omega (arith, g.second, number) in (

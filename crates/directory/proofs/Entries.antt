@@ -6,6 +6,7 @@
 --     tables-laid                      laying cells behind the tables changes none of them
 --     entry                            what the directory says once an operator has laid its table follows from what
 --                                      the operator owes
+use Rattle.std.specs.Prelude.{Ok}
 use Prim.Native.Nat.{ℕ, zero, suc, ◌+◌, ◌*◌, ◌≤◌, ◌<◌}
 use mathlib.Core.Path.{◌≡◌, refl, sym, ap, ap₂, ◌∙◌, subst}
 use mathlib.Core.List.{List, [], ◌∷◌, ◌++◌, append-nil, append_assoc}
@@ -25,7 +26,6 @@ use Rattle.laws.proofs.Rows.{take_laid, length_rows_at}
 use Rattle.laws.specs.Attempt.{Attempt, gives}
 use Rattle.meaning.specs.Operators.{Table, table_of}
 use Rattle.tables.specs.declared.Stand.{Stand}
-use Rattle.tables.specs.declared.Laid.TheVariants.{Rows}
 use Rattle.tables.specs.Layout.{table_at, Inside, Owes}
 use Rattle.directory.specs.Directory.{stand_at, stand, entered, tables_in, widths_in, ListedTables, EndToEnd, Entry}
 
@@ -153,7 +153,7 @@ gather_more f [] x = append-nil (f x)
 gather_more f (y ∷ xs) x = ap (f y ++◌) (gather_more f xs x) ∙ sym (append_assoc (f y) (gather f xs) (f x))
 
 module _ (room at w k : ℕ) (made : Attempt Table) (xs ys : List ℤ) (dir : List ℕ) (n : ℕ)
-    (inside : room ≤ length xs) (o : Owes room at w made xs ys (Rows k)) (few : n < 512) (low : 1 ≤ w) (high : w ≤ 6)
+    (inside : room ≤ length xs) (o : Owes room at w made xs ys (Ok k)) (few : n < 512) (low : 1 ≤ w) (high : w ≤ 6)
     (l : ListedTables dir n at) where
   s : Stand
   s = stand at k w

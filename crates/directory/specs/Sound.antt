@@ -4,11 +4,9 @@
 --     made_of dir o ts, made_width dir o     the width of the table that operator o makes
 --     SoundOf plan dir n o ts, SoundOperator plan dir n o   o's tables are among the first n, and it suits their widths
 --     Served dir o            .. which the directory lists
-use Rattle.std.specs.Prelude.{ℕ, ◌+◌, ◌*◌, ◌≤◌, ◌<◌, List, length}
+use Rattle.std.specs.Prelude.{ℕ, ◌+◌, ◌*◌, ◌≤◌, ◌<◌, List, length, Option, Some, None}
 use Rattle.tables.specs.Layout.{Inside}
 use Rattle.plan_records.specs.declared.Operator.{Operator}
-use Rattle.plan_widths.specs.declared.TableOperands.{TableOperands}
-use Rattle.plan_widths.specs.declared.TableOperands.TheVariants.{None, Of}
 use Rattle.plans.specs.Accepted.{Suited}
 use Rattle.plan_widths.specs.Widths as Widths
 use Rattle.directory.specs.Directory.{stand_at, ListedTables}
@@ -23,16 +21,16 @@ abbrev pub wide : List ℕ → ℕ → ℕ
 wide dir t = (stand_at dir t).width
 
 -- an operator that names no table is RT
-unfoldable pub made_of : List ℕ → Operator → TableOperands → ℕ
+unfoldable pub made_of : List ℕ → Operator → Option (ℕ × ℕ) → ℕ
 made_of dir o None = 1
-made_of dir o (Of t u) = Widths.made_width o (wide dir t) (wide dir u)
+made_of dir o (Some (t, u)) = Widths.made_width o (wide dir t) (wide dir u)
 
 unfoldable pub made_width : List ℕ → Operator → ℕ
 made_width dir o = made_of dir o (Widths.tables_of o)
 
-unfoldable pub SoundOf : List ℕ → List ℕ → ℕ → Operator → TableOperands → Type 0
+unfoldable pub SoundOf : List ℕ → List ℕ → ℕ → Operator → Option (ℕ × ℕ) → Type 0
 SoundOf plan dir n o None = Unit {0}
-SoundOf plan dir n o (Of t u) = (t < n) × (u < n) × Suited plan o (wide dir t) (wide dir u)
+SoundOf plan dir n o (Some (t, u)) = (t < n) × (u < n) × Suited plan o (wide dir t) (wide dir u)
 
 unfoldable pub SoundOperator : List ℕ → List ℕ → ℕ → Operator → Type 0
 SoundOperator plan dir n o = SoundOf plan dir n o (Widths.tables_of o)

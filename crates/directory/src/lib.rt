@@ -6,7 +6,6 @@ ghost use Rattle.directory.specs.Directory.{stand_at, entered};
 ghost use Rattle.directory.specs.Sound.{made_width, Served};
 
 use plan_records::Operator;
-use plan_widths::TableOperands;
 use tables::Stand;
 
 // Where table t stands.
@@ -46,7 +45,7 @@ pub fn width(directory: &[usize], operator: Operator) -> usize
     ensures { result ≡ made_width directory.now operator }
 {
     let named = plan_widths::tables(operator);
-    let TableOperands::Of(t, u) = named else {
+    let Some((t, u)) = named else {
         return 1;
     };
     plan_widths::made_width(operator, wide(directory, t), wide(directory, u))

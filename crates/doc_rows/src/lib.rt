@@ -9,13 +9,6 @@ ghost use Rattle.doc_rows.specs.Answers;
 
 use cells::Rank;
 
-// A root, where there is one.
-#[derive(Clone, Copy)]
-pub enum FoundRoot {
-    At(Rank),
-    Nothing,
-}
-
 // How many rows directly after the row are deeper than it, as the row says.
 pub fn size(doc: &[u8], r: Rank) -> usize
     requires { 10 * r.0 + 10 ≤ length doc.now }
@@ -49,25 +42,21 @@ pub fn prop(doc: &[u8], r: Rank) -> i32
 }
 
 // The root of fragment k, counted from 1.
-pub fn root(doc: &[u8], rows: usize, k: usize) -> FoundRoot
+pub fn root(doc: &[u8], rows: usize, k: usize) -> Option<Rank>
     requires { (10 * rows ≤ length doc.now) × (1 ≤ k) }
     ensures { Answers.found result
         ≡ World.member (World.roots (Catalogue.catalogue_of doc.now rows)) (k - 1) }
 {
     let mut left = k - 1;
-    let mut r: usize = 0;
-    while r < rows {
-        if level(doc, Rank(r)) != 0 {
-            r += 1;
-            continue;
+    for r in 0..rows {
+        if level(doc, Rank(r)) == 0 {
+            if left == 0 {
+                return Some(Rank(r));
+            }
+            left -= 1;
         }
-        if left == 0 {
-            return FoundRoot::At(Rank(r));
-        }
-        left -= 1;
-        r += 1;
     }
-    FoundRoot::Nothing
+    None
 }
 
 // The root of the fragment that the row of rank r is in: the last row of level 0 up to it.
@@ -75,12 +64,10 @@ pub fn fragment(doc: &[u8], r: Rank) -> Rank
     requires { 10 * r.0 + 10 ≤ length doc.now }
     ensures { (n : ℕ) → result.0 ≡ World.fragment (Catalogue.catalogue_of doc.now n) r.0 }
 {
-    let mut v = r.0;
-    while 0 < v {
+    for v in (1..=r.0).rev() {
         if level(doc, Rank(v)) == 0 {
             return Rank(v);
         }
-        v -= 1;
     }
-    Rank(v)
+    Rank(0)
 }

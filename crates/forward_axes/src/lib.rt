@@ -15,10 +15,8 @@ pub fn self_step(doc: &[u8], rows: usize, test: Test, from: &[bool], to: &mut [b
     ensures { Step doc.now rows Axes.Itself test from.now
         to.old to.new }
 {
-    let mut v: usize = 0;
-    while v < rows {
+    for v in 0..rows {
         to[v] = takes(from[v], doc, test, Rank(v));
-        v += 1;
     }
 }
 
@@ -37,14 +35,12 @@ pub fn descendant_step(
         to.old to.new }
 {
     let mut until = Rank(0);
-    let mut v: usize = 0;
-    while v < rows {
+    for v in 0..rows {
         let marked = from[v];
         let on = (v < until.0) | (own & marked);
         to[v] = takes(on, doc, test, Rank(v));
         let end = end_of(doc, rows, Rank(v));
         until = pick(marked & (until.0 <= end.0), Rank(end.0 + 1), until);
-        v += 1;
     }
 }
 
@@ -56,14 +52,12 @@ pub fn following_step(doc: &[u8], rows: usize, test: Test, from: &[bool], to: &m
         to.old to.new }
 {
     let mut least = Rank(rows);
-    let mut v: usize = 0;
-    while v < rows {
+    for v in 0..rows {
         let level = level_of(doc, rows, Rank(v));
         let entered = pick(level == 0, Rank(rows), least);
         to[v] = takes(entered.0 < v, doc, test, Rank(v));
         let end = end_of(doc, rows, Rank(v));
         least = pick(from[v] & (end.0 < entered.0), end, entered);
-        v += 1;
     }
 }
 
@@ -74,12 +68,10 @@ pub fn child_step(doc: &[u8], rows: usize, test: Test, from: &[bool], to: &mut [
         to.old to.new }
 {
     let mut opens = [false; 65];
-    let mut v: usize = 0;
-    while v < rows {
+    for v in 0..rows {
         let level = level_of(doc, rows, Rank(v));
         let on = opens[level];
         to[v] = takes(on, doc, test, Rank(v));
         opens[level + 1] = from[v];
-        v += 1;
     }
 }

@@ -5,6 +5,7 @@
 --     counts_is, truths_is, steps_is     what the operators are defined to make
 --     counts_settled                 RC never fails
 --     steps_succeed                  RX fails exactly where column 1 holds a cell that is no node
+use Rattle.std.specs.Prelude.{Result}
 use Prim.Native.Nat.{ℕ, ◌≤◌, ◌<◌}
 use mathlib.Core.Path.{◌≡◌, refl, sym, ap, ◌∙◌, subst, fun_ext}
 use mathlib.Core.List.{List, [], ◌∷◌, map}
@@ -30,7 +31,7 @@ use Rattle.meaning.specs.World.{World, world_of, rank_of, ranks_of, reached, ste
 use Rattle.meaning.specs.Operators.{Row, Table, cell, column, groups, group_of, items_in_order, counts, truths, steps}
 use Rattle.step_parts.specs.Steps.{Ready}
 use Rattle.tables.specs.declared.Stand.{Stand}
-use Rattle.tables.specs.declared.Laid.{Laid}
+use Rattle.tables.specs.declared.Unlaid.{Unlaid}
 use Rattle.tables.specs.Layout.{table_at, Inside, Owes}
 use Rattle.tables.specs.Laying.{succeeds, Settled}
 use Rattle.gathering.specs.declared.Gather.{Gather}
@@ -47,7 +48,7 @@ module _ (gather k : Gather) (e : gather ≡ k) where
   gather_suits width room doc rows from to h = subst (λ (g : Gather). Asks g width room doc rows from to) e h
 
   gather_owes :
-      (room at : ℕ) (w : World) (t : Table) (xs ys : List ℤ) (o : Laid) →
+      (room at : ℕ) (w : World) (t : Table) (xs ys : List ℤ) (o : Result ℕ Unlaid) →
       Owes room at 2 (made k w t (in_front t (column_of k))) xs ys o →
       Owes room at 2 (made gather w t (in_front t (column_of gather))) xs ys o
   gather_owes room at w t xs ys o h =
@@ -67,7 +68,7 @@ module _ (gather : Gather) (width room : ℕ) (doc : List ℕ) (rows : ℕ) (fro
   unfolding Asks
   suits_step axis test e = gather_suits gather (Step axis test) e width room doc rows from to h
 
-module _ (gather : Gather) (room at : ℕ) (d : Catalogue) (t : Table) (xs ys : List ℤ) (o : Laid) where
+module _ (gather : Gather) (room at : ℕ) (d : Catalogue) (t : Table) (xs ys : List ℤ) (o : Result ℕ Unlaid) where
   pub owes_count :
       (c : ℕ) → gather ≡ Count c →
       Owes room at 2 (gives ((in_front t c ∷ pos (length (group_of t c (in_front t c))) ∷ []) ∷ [])) xs ys o →

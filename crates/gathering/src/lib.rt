@@ -2,7 +2,6 @@
 #![tactic(auto)]
 
 ghost use Rattle.std.specs.Prelude.{◌≡◌, ◌*◌, ◌≤◌, ◌<◌, length};
-ghost use Rattle.items.specs.Answers;
 ghost use Rattle.meaning.specs.Catalogue.{Catalogue, catalogue_of};
 ghost use Rattle.meaning.specs.Operators.{column};
 ghost use Rattle.meaning.specs.World.{world_of};
@@ -15,7 +14,6 @@ ghost use Rattle.gathering.specs.Gathered;
 
 use codes::{Axis, Test};
 use counting::count_group;
-use items::Judged;
 use judging::{group_truth, truth_group};
 use members::{opens, part};
 use stepping::step_group;
@@ -41,6 +39,7 @@ fn column_of(gather: Gather) -> usize
 }
 
 // What is made of the group of the first row of s, whose rows are all in s.
+// As it is: (d) a closure would want a contract that says what `Gathered.made` says of each case.
 fn lay_group(
     doc: &[u8],
     rows: usize,
@@ -89,7 +88,7 @@ fn turn(
 {
     let c = column_of(gather);
     if !opens(work, s, c, up, i) {
-        return Laid::Rows(0);
+        return Ok(0);
     }
     let group = part(work, s, c, up, i);
     lay_group(doc, rows, gather, work, group, from, to, at, room)
@@ -119,28 +118,13 @@ pub fn each_group(
         work.old work.new result }
 {
     let mut top = at;
-    let mut n: usize = 0;
-    let mut i: usize = 0;
-    while i < s.rows {
-        let laid = turn(doc, rows, gather, work, s, up, i, from, to, top, room);
-        let Laid::Rows(m) = laid else {
-            return laid;
-        };
+    let mut n = 0;
+    for i in 0..s.rows {
+        let m = turn(doc, rows, gather, work, s, up, i, from, to, top, room)?;
         top += m * 2;
         n += m;
-        i += 1;
     }
-    Laid::Rows(n)
-}
-
-// Whether a truth was found.
-fn is_judged(j: Judged) -> bool
-    ensures { result ≡ succeeds (Answers.judged j) }
-{
-    match j {
-        Judged::Is(_) => true,
-        Judged::Fails => false,
-    }
+    Ok(n)
 }
 
 // Whether the items of the group that row i opens have a truth: so too, where it opens none.
@@ -153,7 +137,7 @@ fn settled(work: &[i64], s: Stand, up: bool, i: usize) -> bool
     if !opens(work, s, 0, up, i) {
         return true;
     }
-    is_judged(group_truth(work, part(work, s, 0, up, i)))
+    group_truth(work, part(work, s, 0, up, i)).is_some()
 }
 
 // Whether the items of every group have a truth. It costs what laying the groups' rows does.
@@ -163,12 +147,10 @@ pub fn settles(work: &[i64], s: Stand, up: bool) -> bool
     ensures { (c : Catalogue)
         → result ≡ succeeds (Gathered.whole Gathers.Truth (world_of c) (table_at work.now s)) }
 {
-    let mut i: usize = 0;
-    while i < s.rows {
+    for i in 0..s.rows {
         if !settled(work, s, up, i) {
             return false;
         }
-        i += 1;
     }
     true
 }

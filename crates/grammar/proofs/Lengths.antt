@@ -4,6 +4,7 @@
 --     Asked l             a level that an operand is asked at: all but the tightest
 --     text_long           the text of a query has at most 27 bytes a record
 --     written_long        the text of an accepted query has at most 3,456 bytes
+use Rattle.std.specs.Prelude.{Option, Some, None}
 use Prim.Native.Nat.{ℕ, suc, ◌+◌, ◌*◌, ◌≤◌}
 use mathlib.Core.Path.{◌≡◌, refl}
 use mathlib.Core.List.{List, [], ◌∷◌, ◌++◌}
@@ -18,9 +19,8 @@ use Rattle.codes.specs.declared.Axis.TheVariants.{Child, Descendant, DescendantO
 use Rattle.codes.specs.declared.Axis.TheVariants.{Parent, Ancestor, Following, Preceding}
 use Rattle.codes.specs.declared.Test.{Test}
 use Rattle.codes.specs.declared.Test.TheVariants.{AnyNode, Element, Text, Named}
+use Rattle.cells.specs.declared.Item.{Item}
 use Rattle.cells.specs.declared.Item.TheVariants.{Integer, Truth, Node}
-use Rattle.cells.specs.declared.Held.{Held}
-use Rattle.cells.specs.declared.Held.TheVariants as Held
 use Rattle.cells.specs.Bytes.{Bytes}
 use Rattle.cells.specs.Cell.{held}
 use Rattle.codes.specs.Codes.{test_name}
@@ -71,14 +71,14 @@ unfolding step_text
 step_long x t h =
     omega (arith, length-append (axis_word x).bytes (58 ∷ 58 ∷ test_text t), axis_long x, test_long t h)
 
-pub item_long : (h : Held) → length (item_text h) ≤ 27
+pub item_long : (h : Option Item) → length (item_text h) ≤ 27
 unfolding item_text signed
-item_long (Held.Item (Integer (pos n))) = omega (arith, decimal_short n)
-item_long (Held.Item (Integer (negsuc n))) = omega (arith, decimal_short (suc n))
-item_long (Held.Item (Truth true)) = omega arith
-item_long (Held.Item (Truth false)) = omega arith
-item_long (Held.Item (Node r)) = omega arith
-item_long Held.Stray = omega arith
+item_long (Some (Integer (pos n))) = omega (arith, decimal_short n)
+item_long (Some (Integer (negsuc n))) = omega (arith, decimal_short (suc n))
+item_long (Some (Truth true)) = omega arith
+item_long (Some (Truth false)) = omega arith
+item_long (Some (Node r)) = omega arith
+item_long None = omega arith
 
 root_long : (k : ℕ) → length (root_text k) ≤ 27
 unfolding root_text

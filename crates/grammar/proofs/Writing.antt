@@ -6,6 +6,7 @@
 --     writes              the text of a query is a part of the level that is asked for
 --     written_typed       the text of an accepted query is in the grammar, and read as the query's bytes
 --     written_call        .. so the reader's call on it, with enough lent, gives those bytes back
+use Rattle.std.specs.Prelude.{Option, Some, None}
 use Prim.Native.Nat.{ℕ, zero, suc, ◌+◌, ◌-◌, ◌≤◌, ◌<◌}
 use mathlib.Core.Path.{◌≡◌, refl, sym, ap, ap₂, ◌∙◌, subst}
 use mathlib.Core.List.{List, [], ◌∷◌, ◌++◌, append-nil}
@@ -19,9 +20,8 @@ use Rattle.codes.specs.declared.Function.TheVariants.{Add, Subtract, Multiply, D
 use Rattle.codes.specs.declared.Axis.{Axis}
 use Rattle.codes.specs.declared.Test.{Test}
 use Rattle.codes.specs.declared.Test.TheVariants.{AnyNode, Element, Text, Named}
+use Rattle.cells.specs.declared.Item.{Item}
 use Rattle.cells.specs.declared.Item.TheVariants.{Integer, Truth, Node}
-use Rattle.cells.specs.declared.Held.{Held}
-use Rattle.cells.specs.declared.Held.TheVariants as Held
 use Rattle.cells.specs.Bytes.{Bytes}
 use Rattle.cells.specs.Cell.{held, in_range}
 use Rattle.codes.specs.Codes.{test_name}
@@ -387,14 +387,14 @@ module _ {d : ℕ} {xs t : List ℕ} where
 
 -- A literal, by the item that its cell holds
 
-item_writes : {d : ℕ} (h : Held) → Plain h → Writes primary d (item_record h) (item_text h)
+item_writes : {d : ℕ} (h : Option Item) → Plain h → Writes primary d (item_record h) (item_text h)
 unfolding item_record item_text signed in_range
-item_writes (Held.Item (Integer (pos n))) h = integer_writes n (omega (arith, ltb-true n 0x8000_0000 h))
-item_writes (Held.Item (Integer (negsuc n))) h =
+item_writes (Some (Integer (pos n))) h = integer_writes n (omega (arith, ltb-true n 0x8000_0000 h))
+item_writes (Some (Integer (negsuc n))) h =
     negative_writes (suc n) (omega (arith, ltb-true n 0x8000_0000 h))
-item_writes (Held.Item (Truth b)) h = truth_writes b
-item_writes (Held.Item (Node r)) h = absurd h
-item_writes Held.Stray h = absurd h
+item_writes (Some (Truth b)) h = truth_writes b
+item_writes (Some (Node r)) h = absurd h
+item_writes None h = absurd h
 
 -- The text of a query
 

@@ -10,10 +10,9 @@
 --     Covers bs at r      the records of what was read stand from at on, and end where it says; their fields are in
 --                         range
 --     Encodes bs q        the bytes bs are the records of q, their fields in range
-use Rattle.std.specs.Prelude.{ℕ, suc, ◌≤◌, ◌<◌, ◌≡◌, List, [], ◌++◌, true, ℤ, pos, negsuc, drop}
+use Rattle.std.specs.Prelude.{ℕ, suc, ◌≤◌, ◌<◌, ◌≡◌, List, [], ◌++◌, true, ℤ, pos, negsuc, drop, Option, Some, None}
+use Rattle.cells.specs.declared.Item.{Item}
 use Rattle.cells.specs.declared.Item.TheVariants.{Integer, Truth, Node}
-use Rattle.cells.specs.declared.Held.{Held}
-use Rattle.cells.specs.declared.Held.TheVariants as Held
 use Rattle.cells.specs.Cell.{held, in_range}
 use Rattle.codes.specs.Codes.{test_name}
 use Rattle.meaning.specs.Query.{Query, QL, QE, QR, QV, QS, QT, QF, QI, QO, QC, QD, QX, Read, Record, literal, empty}
@@ -26,11 +25,11 @@ bits4 (pos n) = n
 bits4 (negsuc n) = minus_bits (suc n)
 
 -- no literal of a query is a node, or no item's cell
-unfoldable pub item_record : Held → List ℕ
-item_record (Held.Item (Integer z)) = record_ql (bits4 z)
-item_record (Held.Item (Truth b)) = record_qb b
-item_record (Held.Item (Node r)) = []
-item_record Held.Stray = []
+unfoldable pub item_record : Option Item → List ℕ
+item_record (Some (Integer z)) = record_ql (bits4 z)
+item_record (Some (Truth b)) = record_qb b
+item_record (Some (Node r)) = []
+item_record None = []
 
 unfoldable pub record_bytes : Record → List ℕ
 record_bytes (literal z) = item_record (held z)
@@ -60,11 +59,11 @@ query_bytes (QC at a) = record_qc ++ query_bytes a
 query_bytes (QD at a) = record_qd ++ query_bytes a
 query_bytes (QX at x t a) = record_qx x t ++ query_bytes a
 
-abbrev pub Plain : Held → Type 0
-Plain (Held.Item (Integer z)) = in_range z ≡ true
-Plain (Held.Item (Truth b)) = Unit {0}
-Plain (Held.Item (Node r)) = ⊥
-Plain Held.Stray = ⊥
+abbrev pub Plain : Option Item → Type 0
+Plain (Some (Integer z)) = in_range z ≡ true
+Plain (Some (Truth b)) = Unit {0}
+Plain (Some (Node r)) = ⊥
+Plain None = ⊥
 
 abbrev pub Within : Record → Type 0
 Within (literal z) = Plain (held z)

@@ -20,15 +20,14 @@
 --     lent_text lent q     the text of a query, or 8 at 0 where it is longer than the lent bytes
 --     write_outcome ..     the outcome of a call, by what it came to
 --     write_call bs lent   text bytes            1 2 3 as the query check, then 8 at 0
-use Rattle.std.specs.Prelude.{ℕ, suc, ◌+◌, List, [], ◌∷◌, ◌++◌, Bool, cond, ltb, leb, ℤ, pos, negsuc, length}
+use Rattle.std.specs.Prelude.{ℕ, suc, ◌+◌, List, [], ◌∷◌, ◌++◌, Bool, cond, ltb, leb, ℤ, pos, negsuc, length, Option, Some, None}
 use Rattle.codes.specs.declared.Function.{Function}
 use Rattle.codes.specs.declared.Function.TheVariants.{Add, Subtract, Multiply, Divide, Equal, Less}
 use Rattle.codes.specs.declared.Axis.{Axis}
 use Rattle.codes.specs.declared.Test.{Test}
 use Rattle.codes.specs.declared.Test.TheVariants.{AnyNode, Element, Text, Named}
+use Rattle.cells.specs.declared.Item.{Item}
 use Rattle.cells.specs.declared.Item.TheVariants.{Integer, Truth, Node}
-use Rattle.cells.specs.declared.Held.{Held}
-use Rattle.cells.specs.declared.Held.TheVariants as Held
 use Rattle.cells.specs.Cell.{held}
 use Rattle.laws.specs.Attempt.{Reading, refuses, reads, reading, unless}
 use Rattle.laws.specs.Rows.{padded}
@@ -66,11 +65,11 @@ abbrev pub truth_text : Bool → List ℕ
 truth_text b = (truth_word b).bytes ++ (40 ∷ 41 ∷ [])
 
 -- no literal of a query is a node, or no item's cell
-unfoldable pub item_text : Held → List ℕ
-item_text (Held.Item (Integer z)) = signed z
-item_text (Held.Item (Truth b)) = truth_text b
-item_text (Held.Item (Node r)) = []
-item_text Held.Stray = []
+unfoldable pub item_text : Option Item → List ℕ
+item_text (Some (Integer z)) = signed z
+item_text (Some (Truth b)) = truth_text b
+item_text (Some (Node r)) = []
+item_text None = []
 
 unfoldable pub test_text : Test → List ℕ
 test_text AnyNode = node_word.bytes ++ (40 ∷ 41 ∷ [])

@@ -12,7 +12,7 @@ ghost use Rattle.tables.specs.Layout.{table_at, Inside, Owes};
 
 use codes::{Axis, Test};
 use gathering::Gather;
-use tables::{Laid, Stand};
+use tables::{Laid, Stand, Unlaid};
 
 // RC: each cell of column c with how many rows hold it. Few looks at each row where the column climbs; else at most
 // each row against each other, twice. It has no use for a catalogue or for marks.
@@ -50,7 +50,7 @@ pub fn truths(doc: &[u8], rows: usize, work: &mut [i64], s: Stand, at: usize, ro
 {
     let up = tables::order::climbs(work, s, 0);
     if !gathering::settles(work, s, up) {
-        return Laid::Fails;
+        return Err(Unlaid::Fails);
     }
     let mut from = [false; 1];
     let mut to = [false; 1];
@@ -90,7 +90,7 @@ pub fn steps(
         work.old work.new result }
 {
     if !stepping::all_nodes(work, s, rows) {
-        return Laid::Fails;
+        return Err(Unlaid::Fails);
     }
     let up = tables::order::climbs(work, s, 0);
     gathering::each_group(

@@ -3,10 +3,12 @@
 --     number_quotient            the quotient, or none
 --     function_is                the same function of the same integers
 --     arith_first .. arith_both  function of two cells, by what the cells hold
---     value_is, truth_is         the value, the truth of the same item
+--     value_is                   the value of the same item
+--     truth_one                  the truth of an integer
 --     text-..                    the value of a node
 --     truth_none, truth_first    truth of no items, and of a first one
---     root_is, root_none   the root of a fragment; its rank is below the integer_tried of rows
+--     root_is, root_none   the root of a fragment; its rank is below the number of rows
+use Rattle.std.specs.Prelude.{Some, None}
 use Prim.Native.Nat.{ℕ, zero, suc, ◌-◌, ◌≤◌, ◌<◌}
 use mathlib.Core.Path.{◌≡◌, refl, ap, subst}
 use mathlib.Core.List.{List, [], ◌∷◌}
@@ -20,11 +22,8 @@ use borrow.Author.Tests.{lt-ltb, le-ltb, eq-eqb, ne_eqb}
 use Rattle.cells.specs.Cell.{same, in_range, held, node_cell}
 use Rattle.cells.specs.Arithmetic.{number_of, quotient_of}
 use Rattle.codes.specs.declared.Function.{Function}
-use Rattle.cells.specs.declared.Number.TheVariants as Number
 use Rattle.cells.specs.declared.Item.{Item}
 use Rattle.cells.specs.declared.Item.TheVariants.{Integer, Truth, Node}
-use Rattle.cells.specs.declared.Held.{Held}
-use Rattle.cells.specs.declared.Held.TheVariants as Held
 use Rattle.laws.proofs.Lists.{all_kept, all_below}
 use Rattle.laws.specs.Lists.{All}
 use Rattle.laws.specs.Lists.{below}
@@ -33,21 +32,22 @@ use Rattle.meaning.specs.Catalogue.{Catalogue, catalogue_of}
 use Rattle.meaning.specs.World as World
 use Rattle.meaning.specs.World.{ranged, integer_of, value_in, truth_from, roots, member, root_of}
 use Rattle.doc_rows.specs.Fields.{kind_at, prop_at}
-use Rattle.items.specs.Answers.{integer_tried, holding, text_value, truth_of}
+use Rattle.items.specs.Answers.{integer_tried, judged, holding, text_value, truth_of}
+use Rattle.std.specs.Bool.{then_some}
 
 pub number_ranged : (z : ℤ) → integer_tried (number_of z) ≡ ranged z
-unfolding integer_tried number_of ranged provided
+unfolding number_of ranged provided
 number_ranged z = by_test (in_range z)
   where
-    by_test : (t : Bool) → integer_tried (cond t (Number.Is z) Number.Refused) ≡ provided t (gives z)
+    by_test : (t : Bool) → integer_tried (cond t (Some z) None) ≡ provided t (gives z)
     by_test true = refl
     by_test false = refl
 
 pub number_quotient : (x y : ℤ) → integer_tried (quotient_of x y) ≡ World.quotient x y
-unfolding integer_tried quotient_of World.quotient provided
+unfolding quotient_of World.quotient provided
 number_quotient x y = by_test (same y (pos 0))
   where
-    by_test : (t : Bool) → integer_tried (cond t Number.Refused (number_of (quot_z x y)))
+    by_test : (t : Bool) → integer_tried (cond t None (number_of (quot_z x y)))
         ≡ provided (not t) (ranged (quot_z x y))
     by_test true = refl
     by_test false = number_ranged (quot_z x y)
@@ -87,8 +87,13 @@ module _ (doc : List ℕ) (rows r : ℕ) where
   unfolding text_value catalogue_of provided kind_at prop_at
   text_is k z h e f p = rw (lt-ltb r rows h, ← e, eq-eqb k 3 f) (ap gives p)
 
-pub truth_is : (i k : Item) (b d : Bool) → i ≡ k → b ≡ d → truth_of k d ≡ truth_of i b
-truth_is i k b d e h = cc
+-- an integer that may be alone, and whether it was found to be 0
+pub truth_one :
+    (i : Item) (z y : ℤ) (alone nil : Bool) → i ≡ Integer z → y ≡ z → nil ≡ same y (pos 0)
+    → judged (then_some alone (not nil)) ≡ truth_of i alone
+unfolding truth_of provided
+truth_one i z y true nil e d h = rw (e, h, d)
+truth_one i z y false nil e d h = rw e
 
 pub truth_none : (xs : List ℤ) → length xs ≡ 0 → gives false ≡ World.truth xs
 unfolding World.truth
@@ -96,20 +101,20 @@ truth_none [] e = refl
 truth_none (x ∷ xs) e = absurd (omega arith)
 
 -- truth of a list by its first member, and whether that is alone
-pub truth_first : (i : Item) (xs : List ℤ) → 0 < length xs → held (get_or xs 0 (pos 0)) ≡ Held.Item i
+pub truth_first : (i : Item) (xs : List ℤ) → 0 < length xs → held (get_or xs 0 (pos 0)) ≡ Some i
     → truth_of i (eqb (length xs) 1) ≡ World.truth xs
 unfolding World.truth truth_of truth_from provided
 truth_first i [] h e = absurd (omega arith)
 truth_first i (x ∷ xs) h e = rw e (by_item i xs)
   where
-    by_item : (i : Item) (xs : List ℤ) → truth_of i (eqb (suc (length xs)) 1) ≡ truth_from (Held.Item i) xs
+    by_item : (i : Item) (xs : List ℤ) → truth_of i (eqb (suc (length xs)) 1) ≡ truth_from (Some i) xs
     by_item (Node r) xs = refl
     by_item (Truth b) [] = refl
     by_item (Truth b) (y ∷ ys) = rw (ne_eqb (suc (suc (length ys))) 1 (λ e. omega arith))
     by_item (Integer z) [] = refl
     by_item (Integer z) (y ∷ ys) = rw (ne_eqb (suc (suc (length ys))) 1 (λ e. omega arith))
 
-pub truth_stray : (xs : List ℤ) → 0 < length xs → held (get_or xs 0 (pos 0)) ≡ Held.Stray → fails ≡ World.truth xs
+pub truth_stray : (xs : List ℤ) → 0 < length xs → held (get_or xs 0 (pos 0)) ≡ None → fails ≡ World.truth xs
 unfolding World.truth truth_from
 truth_stray [] h e = absurd (omega arith)
 truth_stray (x ∷ xs) h e = rw e

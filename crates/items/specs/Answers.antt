@@ -5,35 +5,25 @@
 --     holding i         what an item's cell holds
 --     text_value c r     the value of the node of rank r
 --     truth_of i alone   truth of a condition whose first item is i, and whose only one where `alone`
-use Rattle.std.specs.Prelude.{ℕ, Bool, true, not, ◌&&◌, ltb, eqb, ℤ, pos}
+use Rattle.std.specs.Prelude.{ℕ, Bool, true, not, ◌&&◌, ltb, eqb, ℤ, pos, Option, Some}
 use Rattle.cells.specs.Cell.{same}
 use Rattle.cells.specs.declared.Item.{Item}
 use Rattle.cells.specs.declared.Item.TheVariants.{Integer, Truth, Node}
-use Rattle.cells.specs.declared.Held.{Held}
-use Rattle.cells.specs.declared.Held.TheVariants as Held
-use Rattle.cells.specs.declared.Number.{Number}
-use Rattle.cells.specs.declared.Number.TheVariants as Number
-use Rattle.laws.specs.Attempt.{Attempt, fails, gives, provided}
+use Rattle.laws.specs.Attempt.{Attempt, gives, provided}
+use Rattle.laws.specs.Attempt as Trying
 use Rattle.meaning.specs.Catalogue.{Catalogue, text}
-use Rattle.items.specs.declared.Tried.{Tried}
-use Rattle.items.specs.declared.Tried.TheVariants as Tried
-use Rattle.items.specs.declared.Judged.{Judged}
-use Rattle.items.specs.declared.Judged.TheVariants as Judged
 
-unfoldable pub tried : Tried → Attempt ℤ
-tried (Tried.Gives z) = gives z
-tried Tried.Fails = fails
+abbrev pub tried : Option ℤ → Attempt ℤ
+tried = Trying.tried
 
-unfoldable pub judged : Judged → Attempt Bool
-judged (Judged.Is b) = gives b
-judged Judged.Fails = fails
+abbrev pub judged : Option Bool → Attempt Bool
+judged = Trying.tried
 
-unfoldable pub integer_tried : Number → Attempt ℤ
-integer_tried (Number.Is z) = gives z
-integer_tried Number.Refused = fails
+abbrev pub integer_tried : Option ℤ → Attempt ℤ
+integer_tried = Trying.tried
 
-abbrev pub holding : Item → Held
-holding i = Held.Item i
+abbrev pub holding : Item → Option Item
+holding i = Some i
 
 unfoldable pub text_value : Catalogue → ℕ → Attempt ℤ
 text_value c r = provided (ltb r c.rows && eqb (c.kind r) text) (gives (c.prop r))

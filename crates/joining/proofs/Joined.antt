@@ -3,10 +3,7 @@
 --     pair_full, pair_laid the two rows laid behind each other
 --     each_join            each row of a table, where it joins
 --     join_same            rows that stand below what is laid are joined as they were
-use Rattle.tables.specs.contracts.Laid.{the_type}
-use Rattle.tables.specs.declared.Laid.{Laid}
-use types.Run.{OneOf, hit}
-use denote.Enum.Declared.{tag_of}
+use Rattle.std.specs.Prelude.{Ok, Err}
 use Prim.Native.Nat.{ℕ, ◌+◌, ◌≤◌, ◌<◌}
 use mathlib.Core.Path.{◌≡◌, refl, sym, ap, ap₂, ◌∙◌}
 use mathlib.Core.List.{List, [], ◌∷◌, ◌++◌, map}
@@ -20,16 +17,17 @@ use Rattle.laws.specs.Rows.{row, laid}
 use Rattle.laws.proofs.Rows.{length_row, row_laid, laid_more}
 use Rattle.laws.specs.Attempt.{Attempt, gives, attempt, each}
 use Rattle.meaning.specs.Operators.{Row, Table, cell}
-use Rattle.tables.specs.declared.Laid.TheVariants.{Rows, Full, Fails}
+use Rattle.tables.specs.declared.Unlaid.TheVariants.{Full}
 use Rattle.tables.specs.Layout.{Owes}
 use Rattle.joining.specs.Joined.{join_one}
 use Rattle.tables.proofs.Promise.{one_full, one_laid}
 use Rattle.tables.proofs.Reading.{cell_read}
 
 pub pair_test :
-    (xs : List ℤ) (a w k b v d : ℕ) (t : Bool) → k < w → d < v →
-    t ≡ same (get_or xs (a + k) (pos 0)) (get_or xs (b + d) (pos 0)) → same (cell (row xs a w) k) (cell (row xs b v) d) ≡ t
-pair_test xs a w k b v d t h i e = ap₂ same (cell_read xs a w k h) (cell_read xs b v d i) ∙ sym e
+    (xs : List ℤ) (a w k b v d : ℕ) (x y : ℤ) (t : Bool) → k < w → d < v → t ≡ same x y →
+    x ≡ get_or xs (a + k) (pos 0) → y ≡ get_or xs (b + d) (pos 0) → same (cell (row xs a w) k) (cell (row xs b v) d) ≡ t
+pair_test xs a w k b v d x y t h i e p q =
+    ap₂ same (cell_read xs a w k h ∙ sym p) (cell_read xs b v d i ∙ sym q) ∙ sym e
 
 module _ (room at a w b v : ℕ) (xs : List ℤ) (insideA : a + w ≤ at) (insideB : b + v ≤ at)
     (inside : at ≤ length xs) where
@@ -38,13 +36,13 @@ module _ (room at a w b v : ℕ) (xs : List ℤ) (insideA : a + w ≤ at) (insid
       length-append (row xs a w) (row xs b v)
       ∙ ap₂ ◌+◌ (length_row xs a w (omega arith)) (length_row xs b v (omega arith))
 
-  pub pair_full : room < at + (w + v) → Owes room at (w + v) (gives ((row xs a w ++ row xs b v) ∷ [])) xs xs Full
+  pub pair_full : room < at + (w + v) → Owes room at (w + v) (gives ((row xs a w ++ row xs b v) ∷ [])) xs xs (Err Full)
   pair_full h = one_full room at (w + v) (row xs a w ++ row xs b v) xs length_pair h
 
   pub pair_laid :
       (ys zs : List ℤ) → at + (w + v) ≤ room → room ≤ length xs →
       ys ≡ laid xs at (row xs a w) → zs ≡ laid ys (at + w) (row ys b v) →
-      Owes room at (w + v) (gives ((row xs a w ++ row xs b v) ∷ [])) xs zs (Rows 1)
+      Owes room at (w + v) (gives ((row xs a w ++ row xs b v) ∷ [])) xs zs (Ok 1)
   pair_laid ys zs h g e f =
       let r = row xs a w in
       let long : length r ≡ w = length_row xs a w (omega arith) in
@@ -77,9 +75,3 @@ join_same xs ys at vs a w k b v d e h i g =
     ap₂ (λ (r q : Row). join_one r k d q)
     (sym (row_laid xs at vs a w h g) ∙ ap (λ (l : List ℤ). row l a w) (sym e))
     (sym (row_laid xs at vs b v i g) ∙ ap (λ (l : List ℤ). row l b v) (sym e))
-
--- what is not rows is full, or fails
-pub not_rows : (o : Laid) → ((n : ℕ) → o ≡ Rows n → ⊥) → OneOf (1 ∷ 2 ∷ []) (tag_of the_type o)
-not_rows (Rows n) h = absurd (h n refl)
-not_rows Full h = hit (1 ∷ 2 ∷ []) 1 tt
-not_rows Fails h = hit (1 ∷ 2 ∷ []) 2 tt

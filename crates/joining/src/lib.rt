@@ -72,23 +72,17 @@ pub fn join(
     let v = u.width;
     let step = w + v;
     let climbing = climbs(work, u, d);
-    let mut a = s.at;
-    let mut left = s.rows;
     let mut top = at;
     let mut n: usize = 0;
     let mut from: usize = 0;
-    while 0 < left {
+    for i in 0..s.rows {
+        let a = s.at + i * w;
         let x = work[a + c];
         let part = searching::search::part(work, u, d, x, climbing, from);
-        let laid = join_part(work, a, w, c, u, d, part, top, room);
-        let Laid::Rows(m) = laid else {
-            return laid;
-        };
+        let m = join_part(work, a, w, c, u, d, part, top, room)?;
         from = part.start;
         top += m * step;
         n += m;
-        a += w;
-        left -= 1;
     }
-    Laid::Rows(n)
+    Ok(n)
 }

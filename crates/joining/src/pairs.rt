@@ -8,7 +8,7 @@ ghost use Rattle.meaning.specs.Operators.{Row, cell};
 ghost use Rattle.tables.specs.Layout.{table_at, Inside, Owes};
 ghost use Rattle.joining.specs.Joined.{join_one};
 
-use tables::{Laid, Stand, copy};
+use tables::{Laid, Stand, Unlaid, copy};
 
 // The rows at a and b joined, where column k of the one holds the cell of column d of the other.
 fn join_pair(
@@ -28,14 +28,14 @@ fn join_pair(
         work.old work.new result }
 {
     if !cells::same(work[a + k], work[b + d]) {
-        return Laid::Rows(0);
+        return Ok(0);
     }
     if room - at < w + v {
-        return Laid::Full;
+        return Err(Unlaid::Full);
     }
     copy(work, a, w, at);
     copy(work, b, v, at + w);
-    Laid::Rows(1)
+    Ok(1)
 }
 
 // The row at a joined with each row of s that has an equal cell. Every row of s is looked at once.
@@ -57,19 +57,13 @@ pub fn join_row(
         work.old work.new result }
 {
     let v = s.width;
-    let mut b = s.at;
-    let mut left = s.rows;
     let mut top = at;
     let mut n: usize = 0;
-    while 0 < left {
-        let laid = join_pair(work, a, w, k, b, v, d, top, room);
-        let Laid::Rows(m) = laid else {
-            return laid;
-        };
+    for i in 0..s.rows {
+        let b = s.at + i * v;
+        let m = join_pair(work, a, w, k, b, v, d, top, room)?;
         top += m * (w + v);
         n += m;
-        b += v;
-        left -= 1;
     }
-    Laid::Rows(n)
+    Ok(n)
 }

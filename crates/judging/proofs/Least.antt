@@ -3,6 +3,7 @@
 --     sort_first                 the sort by column 1 begins with the least row
 --     truth_of_lem                   truth looks at the first item, and whether there are more
 --     group_truth_is             the truth of a group's items
+use Rattle.std.specs.Prelude.{Option, Some, None}
 use Prim.Native.Nat.{ℕ, suc, ◌+◌, ◌≤◌, ◌<◌}
 use mathlib.Core.Path.{◌≡◌, refl, sym, ap, ap₂, ◌∙◌, subst}
 use mathlib.Core.List.{List, [], ◌∷◌}
@@ -12,10 +13,9 @@ use lib.Dec.{eqb}
 use lib.IntN.{ℤ, pos}
 use lib.ListN.{length, get_or, drop}
 use borrow.Author.Tests.{ne_eqb}
+use Rattle.cells.specs.declared.Item.{Item}
 use Rattle.cells.specs.Cell.{same, before, held}
 use Rattle.cells.specs.declared.Item.TheVariants.{Integer, Truth, Node}
-use Rattle.cells.specs.declared.Held.{Held}
-use Rattle.cells.specs.declared.Held.TheVariants as Held
 use Rattle.cells.proofs.Cells.{before_trans, not_before_trans}
 use Rattle.laws.specs.Sorting.{insert, sort}
 use Rattle.laws.proofs.Booleans.{by_cases}
@@ -127,11 +127,11 @@ truth_of_lem [] h = absurd (omega arith)
 truth_of_lem (x ∷ []) h = refl
 truth_of_lem (x ∷ y ∷ ys) h = rw (ne_eqb (suc (suc (length ys))) 1 (λ e. omega arith)) (go (held x))
   where
-    go : (h : Held) → truth_from h (x ∷ []) ≡ truth_from h (y ∷ ys)
-    go (Held.Item (Node r)) = refl
-    go (Held.Item (Truth b)) = refl
-    go (Held.Item (Integer z)) = refl
-    go Held.Stray = refl
+    go : (h : Option Item) → truth_from h (x ∷ []) ≡ truth_from h (y ∷ ys)
+    go (Some (Node r)) = refl
+    go (Some (Truth b)) = refl
+    go (Some (Integer z)) = refl
+    go None = refl
 
 module _ (t : Table) (some : 0 < length t) where
   abbrev group : Table

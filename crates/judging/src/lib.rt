@@ -13,9 +13,8 @@ ghost use Rattle.judging.specs.Foremost.{least};
 ghost use Rattle.tables.specs.Order.{cell_at};
 
 use counting::{count_rows, pair};
-use items::Judged;
-use members::cell_at;
-use tables::{Laid, Stand};
+use tables::order::{cell_at, holds, precedes};
+use tables::{Laid, Stand, Unlaid};
 
 // Of the rows `best` and i the one that comes first in the group of x: row i, where it is of the group and has the
 // lesser column 1.
@@ -25,13 +24,11 @@ fn better(work: &[i64], s: Stand, x: i64, best: usize, i: usize) -> usize
         (cond (Cell.before (cell_at (table_at work.now s) 1 i) (cell_at (table_at work.now s) 1 best))
         i best) best }
 {
-    if !cells::same(x, cell_at(work, s, 0, i)) {
-        return best;
+    if holds(work, s, 0, i, x) && precedes(work, s, 1, i, best) {
+        i
+    } else {
+        best
     }
-    if cells::before(cell_at(work, s, 1, i), cell_at(work, s, 1, best)) {
-        return i;
-    }
-    best
 }
 
 // The row that comes first in the group of the first row: least column 1, then earliest. Each row is looked at once.
@@ -43,16 +40,14 @@ fn first_of(work: &[i64], s: Stand) -> usize
 {
     let x = cell_at(work, s, 0, 0);
     let mut best: usize = 0;
-    let mut i: usize = 1;
-    while i < s.rows {
+    for i in 1..s.rows {
         best = better(work, s, x, best, i);
-        i += 1;
     }
     best
 }
 
 // The truth of items of which this one is the first, and the only one where it is alone: no other matters.
-fn judge(item: i64, alone: bool) -> Judged
+fn judge(item: i64, alone: bool) -> Option<bool>
     ensures { Answers.judged result ≡ World.truth (item ∷ cond alone [] (item ∷ [])) }
 {
     if alone {
@@ -64,7 +59,7 @@ fn judge(item: i64, alone: bool) -> Judged
 }
 
 // The truth of the items of the first row's group. Each row is looked at twice.
-pub fn group_truth(work: &[i64], s: Stand) -> Judged
+pub fn group_truth(work: &[i64], s: Stand) -> Option<bool>
     requires { Inside (length work.now) s × (s.width ≡ 3) × (0 < s.rows) }
     ensures { Answers.judged result ≡ World.truth
         (items_in_order (group_of (table_at work.now s) 0 (in_front (table_at work.now s) 0))) }
@@ -84,9 +79,7 @@ pub fn truth_group(work: &mut [i64], s: Stand, at: usize, room: usize) -> Laid
         work.old work.new result }
 {
     let judged = group_truth(work, s);
-    let Judged::Is(b) = judged else {
-        return Laid::Fails;
-    };
+    let b = judged.ok_or(Unlaid::Fails)?;
     let x = cell_at(work, s, 0, 0);
     pair(work, x, cells::truth_cell(b), at, room)
 }

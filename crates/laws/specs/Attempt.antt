@@ -3,13 +3,14 @@
 --     Reading A      refuses number place, or reads an A    reading records from left to right
 --     Work A         full place, failed place, or done an A     work in lent room: refusals 6 and 7 at the record at
 --                    work
+--     tried o                what an option holds, or failing
 --     attempt, reading, work     what comes next, on the result; else the same outcome
 --     provided, unless, within   go on where a test holds; else fail, refuse, or lack room
 --     refusing, trying           an attempt that refuses where it fails; an attempt of the record at a place
 --     Given P a      what attempt a gives, if it gives, is P
 --     Found P m      what reading m reads, if it reads, is P
 --     each f xs      f of every member of xs in order, all results one after another; the first that fails ends it
-use Rattle.std.specs.Prelude.{ℕ, ◌≡◌, Bool, true, false, List, [], ◌∷◌, ◌++◌}
+use Rattle.std.specs.Prelude.{ℕ, ◌≡◌, Bool, true, false, List, [], ◌∷◌, ◌++◌, Option, Some, None}
 
 pub data Attempt (A : Type 0) : Type 0 where
   fails : Attempt A
@@ -23,6 +24,10 @@ pub data Work (A : Type 0) : Type 0 where
   full : (place : ℕ) → Work A
   failed : (place : ℕ) → Work A
   done : A → Work A
+
+abbrev pub tried : {A : Type 0} → Option A → Attempt A
+tried (Some a) = gives a
+tried None = fails
 
 unfoldable pub attempt : {A B : Type 0} → Attempt A → (A → Attempt B) → Attempt B
 attempt fails f = fails

@@ -14,15 +14,10 @@ ghost use Rattle.laying.specs.Goes.{Goes};
 use directory::{enter, width};
 use operators::{Top, perform};
 use plan_records::Operator;
-use tables::{Laid, Stand};
+use tables::{Stand, Unlaid};
 
-// What one operator comes to: the end of the tables with its own, that it passes the room, or that it fails.
-#[derive(Clone, Copy)]
-pub enum Turned {
-    On(Top),
-    Full,
-    Fails,
-}
+// What one operator comes to: the end of the tables with its own, or why it laid none.
+pub type Turned = Result<Top, Unlaid>;
 
 // Lays the table of one operator behind those that stand, and enters it.
 pub fn lay(
@@ -49,24 +44,18 @@ pub fn lay(
         (tables_in work.old directory.old top.tables))
         work.old work.new directory.old directory.new result }
 {
-    let laid = perform(
+    let n = perform(
         plan, doc, rows, operator, directory, top, work, order, aside, from, to, room,
-    );
+    )?;
     let w = width(directory, operator);
-    match laid {
-        Laid::Rows(n) => {
-            let s = Stand {
-                at: top.cells,
-                rows: n,
-                width: w,
-            };
-            enter(directory, top.tables, s);
-            Turned::On(Top {
-                tables: top.tables + 1,
-                cells: top.cells + n * w,
-            })
-        }
-        Laid::Full => Turned::Full,
-        Laid::Fails => Turned::Fails,
-    }
+    let s = Stand {
+        at: top.cells,
+        rows: n,
+        width: w,
+    };
+    enter(directory, top.tables, s);
+    Ok(Top {
+        tables: top.tables + 1,
+        cells: top.cells + n * w,
+    })
 }

@@ -8,6 +8,7 @@ ghost use Rattle.adding.specs.Ruled.{PenRoom, Ruled};
 use adding::{Operator, Output, Pen, add};
 
 // QL, QB: attach 1 to the loop's table l, attach the cell.
+// As it is: (d) each rule is a list of operators, and those of two rules are alike by chance.
 pub fn literal(plan: &mut [u8], pen: Pen, l: usize, cell: i64, next: usize) -> Output
     requires { PenRoom pen 2 }
     ensures { Ruled (rule_l pen.operators l cell) next plan.old pen plan.new result }

@@ -3,9 +3,8 @@
 --     row_here                 what was laid stands there
 --     part_row                 a part of a slice is a row
 --     row_kept                 a row below the part that is kept is as it was
---     copied_on                one member more, copied down over itself or up past itself
---     laid_zeros               one zero more
---     padded_zeros             zeros laid to the end
+--     copied                   members that are copied to another place
+--     filled                   the members from a place on, filled with one
 use Prim.Native.Nat.{ℕ, ◌+◌, ◌-◌, ◌≤◌, ◌<◌}
 use mathlib.Core.Path.{◌≡◌, sym, ap, ◌∙◌}
 use mathlib.Core.Logic.{◌⊎◌, ⊎_elim}
@@ -13,7 +12,10 @@ use mathlib.Core.List.{List, [], ◌∷◌, ◌++◌, append_assoc, append-nil}
 use native.Mathlib.Omega.{arith}
 use native.Mathlib.Numerals.{add-one}
 use lib.ListN.{length, take, drop, get_or, set, replicate, length-append, length-replicate, replicate-append-replicate}
-use lib.ListN.{drop_of_length-le}
+use lib.ListN.{drop_of_length-le, length-drop}
+use borrow.Rule.Slice.PartMut.{put_mid}
+use lib.Seq.{paste}
+use Rattle.std.specs.List.{copy_within}
 use lib.Seq.{drop_at, take-append_seam, length-take-le, get_or-drop, take-take}
 use Rattle.laws.specs.Rows.{row, laid, padded}
 use Rattle.laws.proofs.Rows.{get_d_laid, length_row, row_suc, set_more}
@@ -57,40 +59,29 @@ module _ {A : Type 0} where
         ap (take (length vs)) (drop_at (take at xs) (vs ++ drop (at + length vs) xs) at (length-take-le at xs h))
         ∙ take-append_seam vs (drop (at + length vs) xs)
 
-  pub copied_on :
-      (xs ys : List A) (from to i : ℕ) (d v : A) → ys ≡ laid xs to (row xs from i) → (to ≤ from) ⊎ (from + i < to) →
-      from + i < length xs → to + i < length xs → v ≡ get_or ys (from + i) d →
-      set ys (to + i) v ≡ laid xs to (row xs from (i + 1))
-  copied_on xs ys from to i d v e h k l r =
-      let n : length (row xs from i) ≡ i = length_row xs from i (omega arith) in
-      let here : get_or (laid xs to (row xs from i)) (from + i) d ≡ get_or xs (from + i) d =
-      ⊎_elim (λ b. get_d_past xs to (row xs from i) (from + i) d (omega arith) (omega arith))
-      (λ b. get_d_laid xs to (row xs from i) (from + i) d b (omega arith)) h in
-      set_more xs ys to i (row xs from i) v e n l
-      ∙ ap (laid xs to)
-      (ap (λ (x : A). row xs from i ++ (x ∷ [])) (r ∙ ap (λ (l : List A). get_or l (from + i) d) e ∙ here)
-      ∙ sym (row_suc xs from i d k)
-      ∙ ap (row xs from) (sym (add-one i)))
+  -- n members, copied to another place
+  pub copied :
+      (xs : List A) (from n to : ℕ) → from + n ≤ length xs
+      → copy_within xs from (from + n) to ≡ laid xs to (row xs from n)
+  unfolding row laid
+  copied xs from n to h =
+      let e : from + n - from ≡ n = omega arith in
+      ap (λ (k : ℕ). paste xs to (drop from xs) k) e
+      ∙ append_assoc (take to xs) (take n (drop from xs)) (drop (to + n) xs)
+      ∙ ap (λ (k : ℕ). take to xs ++ (take n (drop from xs) ++ drop (to + k) xs)) (sym (length_row xs from n h))
 
-  pub laid_zeros :
-      (xs ys : List A) (at i : ℕ) (z : A) → at ≤ i → i < length xs → ys ≡ laid xs at (replicate (i - at) z) →
-      set ys i z ≡ laid xs at (replicate (i + 1 - at) z)
-  laid_zeros xs ys at i z h k e =
-      let n = i - at in
-      let s : at + n ≡ i = omega arith in
-      let t : n + 1 ≡ i + 1 - at = omega arith in
-      ap (λ (j : ℕ). set ys j z) (sym s)
-      ∙ set_more xs ys at n (replicate n z) z e (length-replicate n z) (omega arith)
-      ∙ ap (laid xs at) (replicate-append-replicate n 1 z ∙ ap (λ (m : ℕ). replicate m z) t)
-
-  pub padded_zeros :
-      (xs : List A) (at : ℕ) (z : A) → at ≤ length xs →
-      laid xs at (replicate (length xs - at) z) ≡ padded z (length xs) (take at xs)
-  unfolding laid padded
-  padded_zeros xs at z h =
+  -- the members from a on, all filled with z
+  pub filled :
+      (xs ys : List A) (a : ℕ) (z : A) → a ≤ length xs
+      → ys ≡ replicate (length (take (length xs - a) (drop a xs))) z
+      → put_mid a (length xs - a) xs ys ≡ padded z (length xs) (take a xs)
+  unfolding padded
+  filled xs ys a z h e =
+      let rest : length (drop a xs) ≡ length xs - a = length-drop a xs in
       rw (
-        length-take-le at xs h,
-        length-replicate (length xs - at) z,
-        drop_of_length-le xs {i = at + (length xs - at)} (omega arith),
-        append-nil (replicate (length xs - at) z),
+        e,
+        length-take-le (length xs - a) (drop a xs) (omega arith),
+        length-take-le a xs h,
+        drop_of_length-le (drop a xs) {i = length xs - a} (omega arith),
+        append-nil (replicate (length xs - a) z),
       )

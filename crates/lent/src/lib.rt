@@ -9,10 +9,11 @@ ghost use Rattle.lent.specs.Apart.{Apart};
 use codes::limits::CELLS;
 
 // The cells of work that count.
+#[tactic(auto, unfolding(meaning::specs::Calls::room))]
 pub fn room_of(lent: usize) -> usize
     ensures { result ≡ room lent }
 {
-    if lent < CELLS { lent } else { CELLS }
+    lent.min(CELLS)
 }
 
 // Copies n cells to `to`: down over themselves, or up past themselves.
@@ -20,11 +21,7 @@ pub fn copy(work: &mut [i64], from: usize, n: usize, to: usize)
     requires { Apart from n to × (from + n ≤ length work.old) × (to + n ≤ length work.old) }
     ensures { work.new ≡ laid work.old to (row work.old from n) }
 {
-    let mut i: usize = 0;
-    while i < n {
-        work[to + i] = work[from + i];
-        i += 1;
-    }
+    work.copy_within(from..from + n, to);
 }
 
 // Zeroes every cell from `from` on.
@@ -32,9 +29,5 @@ pub fn clear(work: &mut [i64], from: usize)
     requires { from ≤ length work.old }
     ensures { work.new ≡ padded (pos 0) (length work.old) (take from work.old) }
 {
-    let mut i = from;
-    while i < work.len() {
-        work[i] = 0;
-        i += 1;
-    }
+    work[from..].fill(0);
 }

@@ -1,17 +1,14 @@
 -- The levels of a record's text and of its operands' (document 02, L1), as the code names them.
 --     level_of l           a level of the code as a level of the grammar
---     rank_of l            how tightly it holds
 --     own_of r             the level that a record's text has by itself
 --     first_of r           the level that its first operand is written at; expr where it has none
 --     second_of r          .. its second, and if's third; single where it has none
-use Rattle.std.specs.Prelude.{ℕ}
 use Rattle.grammar.specs.Grammar.{Level, expr, single, comparison, additive, multiplicative, path, primary}
 use Rattle.grammar.specs.Written.{function_level, left_level, right_level}
 use Rattle.query_records.specs.declared.Record.{Record}
 use Rattle.query_records.specs.declared.Record.TheVariants.{Literal, Empty, Root, Variable, Sequence, Let, For, If}
 use Rattle.query_records.specs.declared.Record.TheVariants.{Apply, Count, Data, Step}
 use Rattle.levels.specs.declared.Level.{Level as Code}
-use Rattle.levels.specs.declared.Level.TheVariants as Code
 
 abbrev pub level_of : Code → Level
 level_of Code.Expr = expr
@@ -21,15 +18,6 @@ level_of Code.Additive = additive
 level_of Code.Multiplicative = multiplicative
 level_of Code.Path = path
 level_of Code.Primary = primary
-
-abbrev pub rank_of : Code → ℕ
-rank_of Code.Expr = 0
-rank_of Code.Single = 1
-rank_of Code.Comparison = 2
-rank_of Code.Additive = 3
-rank_of Code.Multiplicative = 4
-rank_of Code.Path = 5
-rank_of Code.Primary = 6
 
 abbrev pub own_of : Record → Level
 own_of (Literal i) = primary

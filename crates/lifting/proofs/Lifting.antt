@@ -4,14 +4,14 @@
 --     lifted_absent, lifted_last   the table of a variable that is not lifted; of the last one that is
 --     flagged_below                the flagged variables below n are below n
 --     lifts_none, lifts_one        no variable; one
---     lifts_more                   one variable more
+--     lifts_skip, lifts_more       one variable more: it is not lifted, or it is
 --     lifts_room                   room for one variable more
 --     hold_holds                   the row of eight with another table
 --     flagged_free, flagged_others the flags of free variables give the variables that are to be lifted
 --     lifts-rule                   what `lift` leaves, over the tables that the row of eight holds
-use Prim.Native.Nat.{ℕ, suc, ◌+◌, ◌≤◌, ◌<◌}
+use Prim.Native.Nat.{ℕ, suc, ◌+◌, ◌<◌}
 use mathlib.Core.Path.{◌≡◌, refl, sym, ap, ap₂, ◌∙◌, subst}
-use mathlib.Core.Bool.{Bool, false, not, cond, ◌&&◌}
+use mathlib.Core.Bool.{Bool, true, false, not, cond, ◌&&◌}
 use mathlib.Core.List.{List, [], ◌∷◌, ◌++◌, append-nil}
 use native.Mathlib.Omega.{arith}
 use native.Mathlib.Numerals.{add-one}
@@ -24,7 +24,6 @@ use Rattle.laws.specs.Lists.{filter, below}
 use Rattle.laws.specs.Lists.{All}
 use Rattle.laws.proofs.Lists.{all_map, all_below, all_kept}
 use Rattle.laws.proofs.Filters.{filter_append, filter_same}
-use Rattle.laws.proofs.Booleans.{by_cases}
 use Rattle.laws.proofs.Lists.{length_below}
 use Rattle.meaning.specs.Plan.{Op, RJ, RP}
 use Rattle.meaning.specs.Query.{Query, free}
@@ -101,7 +100,9 @@ unfolding lifts lifted
 lifts_none ts m cs x p = record { wrote = wrote_none x p; holds = λ v h. refl }
 
 -- the row of eight with one more table
-set_holds : (ts : List ℕ) (v t u : ℕ) → length ts ≡ 8 → u < 8 → get_or (set ts v t) u 0 ≡ cond (eqb u v) t (get_or ts u 0)
+set_holds :
+    (ts : List ℕ) (v t u : ℕ) → length ts ≡ 8 → u < 8 →
+    get_or (set ts v t) u 0 ≡ cond (eqb u v) t (get_or ts u 0)
 set_holds ts v t u l h = go (ℕ_discrete u v)
   where
     go : Dec (u ≡ v) → get_or (set ts v t) u 0 ≡ cond (eqb u v) t (get_or ts u 0)
@@ -123,55 +124,36 @@ lifts_one ts m cs v x y p q l w =
     record { wrote = w; holds = λ u h. set_holds ts v (p.operators + 1) u l h }
 
 module _
-    (ts : List ℕ) (m : ℕ) (cs : List ℕ) (fs : List Bool) (v : ℕ) (x y z : List ℕ) (p : Pen) (a r : Lifted)
-    (l : v < 8) (done : Lifts ts m cs (flagged fs v) x p y a)
-    (one : Lifts a.tables m cs (cond (get_or fs v false) (v ∷ []) []) y a.pen z r) where
-  vs : List ℕ
-  vs = flagged fs v
+    (ts : List ℕ) (m : ℕ) (cs : List ℕ) (fs : List Bool) (v : ℕ) (x y : List ℕ) (p : Pen) (a : Lifted)
+    (done : Lifts ts m cs (flagged fs v) x p y a) where
+  -- v is not lifted
+  pub lifts_skip : get_or fs v false ≡ false → Lifts ts m cs (flagged fs (v + 1)) x p y a
+  lifts_skip b = rw (flagged_more, b, append-nil) done
 
-  e : Tables
-  e = tables_of ts
+  module _ (l : v < 8) (z : List ℕ) (r : Lifted) (one : Lifts a.tables m cs (v ∷ []) y a.pen z r) where
+    -- v itself is not lifted before
+    own : get_or a.tables v 0 ≡ get_or ts v 0
+    own = done.holds v l ∙ lifted_absent (tables_of ts) v p.operators (flagged fs v) (flagged_below fs v)
 
-  -- v itself is not lifted before
-  own : get_or a.tables v 0 ≡ get_or ts v 0
-  unfolding e vs
-  own = done.holds v l ∙ lifted_absent (tables_of ts) v p.operators (flagged fs v) (flagged_below fs v)
+    more : Lifts ts m cs (flagged fs v ++ (v ∷ [])) x p z r
+    unfolding lifts lifted hold
+    more =
+        let n = p.operators in
+        let before = lifts (tables_of ts) m cs n (flagged fs v) in
+        let k : a.pen.operators ≡ n + length before = done.wrote.count in
+        let joins : before ++ lifts (tables_of a.tables) m cs a.pen.operators (v ∷ [])
+        ≡ lifts (tables_of ts) m cs n (flagged fs v ++ (v ∷ [])) =
+        rw (own, k) (sym (lifts_append (tables_of ts) m cs n (flagged fs v) (v ∷ []))) in
+        record {
+          wrote = subst (λ (os : List Op). Wrote os x p z r.pen) joins (wrote_then done.wrote one.wrote);
+          holds = λ u h.
+              one.holds u h
+              ∙ ap₂ (λ (s t : ℕ). cond (eqb u v) (s + 1) t) k (done.holds u h)
+              ∙ sym (lifted_last (tables_of ts) m cs u v n (flagged fs v) (flagged_below fs v));
+        }
 
-  -- lifted, or not
-  more_yes : Lifts a.tables m cs (v ∷ []) y a.pen z r → Lifts ts m cs (flagged fs v ++ (v ∷ [])) x p z r
-  unfolding lifts lifted hold
-  more_yes g =
-      let n = p.operators in
-      let before = lifts (tables_of ts) m cs n (flagged fs v) in
-      let k : a.pen.operators ≡ n + length before = done.wrote.count in
-      let joins : before ++ lifts (tables_of a.tables) m cs a.pen.operators (v ∷ [])
-      ≡ lifts (tables_of ts) m cs n (flagged fs v ++ (v ∷ [])) =
-      rw (own, k) (sym (lifts_append (tables_of ts) m cs n (flagged fs v) (v ∷ []))) in
-      record {
-        wrote = subst (λ (os : List Op). Wrote os x p z r.pen) joins (wrote_then done.wrote g.wrote);
-        holds = λ u h.
-            g.holds u h
-            ∙ ap₂ (λ (s t : ℕ). cond (eqb u v) (s + 1) t) k (done.holds u h)
-            ∙ sym (lifted_last (tables_of ts) m cs u v n (flagged fs v) (flagged_below fs v));
-      }
-
-  more_no : Lifts a.tables m cs [] y a.pen z r → Lifts ts m cs (flagged fs v ++ []) x p z r
-  unfolding lifts lifted
-  more_no g =
-      let n = p.operators in
-      let same : flagged fs v ++ [] ≡ flagged fs v = append-nil (flagged fs v) in
-      rw same
-      (record {
-        wrote = rw append-nil at (wrote_then done.wrote g.wrote);
-        holds = λ u h. g.holds u h ∙ done.holds u h;
-      })
-
-  pub lifts_more : Lifts ts m cs (flagged fs (v + 1)) x p z r
-  lifts_more =
-      rw flagged_more
-      (by_cases (get_or fs v false)
-      (λ b. rw b (more_yes (rw b at one)))
-      (λ b. rw b (more_no (rw b at one))))
+    pub lifts_more : get_or fs v false ≡ true → Lifts ts m cs (flagged fs (v + 1)) x p z r
+    lifts_more b = rw (flagged_more, b) more
 
 pub lifts_room :
     (ts : List ℕ) (m : ℕ) (cs : List ℕ) (fs : List Bool) (v : ℕ) (x y : List ℕ) (p : Pen) (a : Lifted) →

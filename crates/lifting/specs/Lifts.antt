@@ -4,7 +4,7 @@
 --     flagged fs n           the variables below n whose flag is set, by rising number
 --     Lifts ts m cs vs x p y r    the variables vs are lifted: their joins with table m and their projections on cs are
 --                            written, and r has the variables' tables after them
-use Rattle.std.specs.Prelude.{ℕ, ◌<◌, ◌≡◌, List, [], ◌∷◌, Bool, false, get_or}
+use Rattle.std.specs.Prelude.{ℕ, ◌<◌, ◌≡◌, List, Bool, false, get_or}
 use Rattle.laws.specs.Lists.{filter, below}
 use Rattle.meaning.specs.Translation.{Tables, lifts, lifted}
 use Rattle.adding.specs.declared.Pen.{Pen}

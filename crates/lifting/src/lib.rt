@@ -2,7 +2,7 @@
 // iterations.
 #![tactic(auto)]
 
-ghost use Rattle.std.specs.Prelude.{◌≡◌, false, cond, [], ◌∷◌, ◌<◌, get_or, set};
+ghost use Rattle.std.specs.Prelude.{◌≡◌, [], ◌∷◌, ◌<◌, get_or, set};
 ghost use Rattle.adding.specs.Ruled.{PenRoom};
 ghost use Rattle.lifting.specs.Lifts.{Lifts, flagged};
 
@@ -20,48 +20,25 @@ pub struct Lifted {
 pub fn table_of(tables: [usize; 8], v: usize) -> usize
     ensures { result ≡ get_or tables v 0 }
 {
-    if v < 8 { tables[v] } else { 0 }
+    tables.get(v).copied().unwrap_or(0)
 }
 
-// The tables with another one for a variable.
-pub fn hold(tables: [usize; 8], v: usize, t: usize) -> [usize; 8]
-    ensures { result ≡ set tables v t }
+// A row, of tables or of flags, with another value for a variable.
+// As it is: (d) `if let Some(held) = row.get_mut(v)` is no plainer; no crate below both this and the flags holds rows.
+pub fn hold<T: Copy>(mut row: [T; 8], v: usize, value: T) -> [T; 8]
+    ensures { result ≡ set row v value }
 {
-    let mut row = tables;
     if v < 8 {
-        row[v] = t;
+        row[v] = value;
     }
     row
 }
 
-// The flags without a variable's.
-pub fn without(flags: [bool; 8], v: usize) -> [bool; 8]
-    ensures { result ≡ set flags v false }
-{
-    let mut row = flags;
-    if v < 8 {
-        row[v] = false;
-    }
-    row
-}
-
-// Lifts a variable where its flag is set: its table is joined with column 0 of table m; its columns `first`, 1, 2 are
-// kept.
-fn lift_one(
-    plan: &mut [u8],
-    pen: Pen,
-    tables: [usize; 8],
-    v: usize,
-    flag: bool,
-    m: usize,
-    first: u8,
-) -> Lifted
+// Lifts a variable: its table is joined with column 0 of table m; its columns `first`, 1, 2 are kept.
+fn lift_one(plan: &mut [u8], pen: Pen, tables: [usize; 8], v: usize, m: usize, first: u8) -> Lifted
     requires { PenRoom pen 2 × (v < 8) }
-    ensures { Lifts tables m (first ∷ 1 ∷ 2 ∷ []) (cond flag (v ∷ []) []) plan.old pen plan.new result }
+    ensures { Lifts tables m (first ∷ 1 ∷ 2 ∷ []) (v ∷ []) plan.old pen plan.new result }
 {
-    if !flag {
-        return Lifted { tables, pen };
-    }
     let n = pen.operators;
     let p = add(plan, pen, Operator::Join(tables[v], 0, m, 0));
     let q = add(plan, p, Operator::Project(n, Columns::Three(first, 1, 2)));
@@ -72,7 +49,7 @@ fn lift_one(
     }
 }
 
-// Lifts every variable whose flag is set, by rising number: eight turns.
+// Lifts every variable whose flag is set, by rising number.
 pub fn lift(
     plan: &mut [u8],
     pen: Pen,
@@ -86,12 +63,12 @@ pub fn lift(
         result }
 {
     let mut done = Lifted { tables, pen };
-    let mut v: usize = 0;
-    while v < 8 {
-        let p = done.pen;
-        let row = done.tables;
-        done = lift_one(plan, p, row, v, flags[v], m, first);
-        v += 1;
+    for v in 0..8 {
+        if flags[v] {
+            let p = done.pen;
+            let row = done.tables;
+            done = lift_one(plan, p, row, v, m, first);
+        }
     }
     done
 }

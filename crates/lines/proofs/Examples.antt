@@ -25,7 +25,7 @@ use Rattle.meaning.specs.Run as Run
 use Rattle.meaning.specs.Translation as Translation
 use Rattle.meaning.specs.Written as Written
 use Rattle.meaning.specs.Calls as Calls
-use Rattle.verdicts.specs.declared.Told.TheVariants.{Gave, Refused}
+use Rattle.verdicts.specs.Compared.{Gave, Refused}
 use Rattle.verdicts.specs.Compared as Compared
 use Rattle.pen.specs.Decimal as Decimal
 use Rattle.lines.specs.Text as Text

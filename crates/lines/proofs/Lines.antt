@@ -2,10 +2,10 @@
 --     line_stray .. line_node      the line of a cell, by what it holds
 --     lines_more                   the line of one item more
 --     first_gave, first_refused    the first lines, by what was told
---     room_gave, room_refused      the bytes that are enough for them
 --     text_gave, text_refused      all lines, by what the translator told
 --     text_room                    .. where the runner had no room
-use Prim.Native.Nat.{ℕ, ◌+◌, ◌*◌, ◌<◌}
+use Rattle.std.specs.Prelude.{Option, Some, None, Result, Ok, Err}
+use Prim.Native.Nat.{ℕ, ◌+◌, ◌<◌}
 use mathlib.Core.Path.{◌≡◌, refl, sym, ap, ◌∙◌}
 use mathlib.Core.List.{List, [], ◌∷◌, ◌++◌, append-nil}
 use mathlib.Core.Bool.{Bool, true}
@@ -17,40 +17,37 @@ use Rattle.cells.specs.Cell.{held}
 use Rattle.cells.specs.declared.Rank.{Rank}
 use Rattle.cells.specs.declared.Item.{Item}
 use Rattle.cells.specs.declared.Item.TheVariants.{Integer, Truth, Node}
-use Rattle.cells.specs.declared.Held.{Held}
-use Rattle.cells.specs.declared.Held.TheVariants as Held
 use Rattle.laws.specs.Lists.{gather}
 use Rattle.laws.proofs.Filters.{gather_append}
-use Rattle.verdicts.specs.declared.Told.{Told}
-use Rattle.verdicts.specs.declared.Told.TheVariants.{Gave, Refused}
 use Rattle.verdicts.specs.declared.Verdict.{Verdict}
 use Rattle.lines.specs.Text.{integer_line, truth_line, node_line, held_line, item_line, items_line, refused_line}
-use Rattle.verdicts.specs.Compared.{refused_with, verdict}
+use Rattle.codes.specs.Refusals.{number_of}
+use Rattle.codes.specs.declared.refusals.Refusal.{Refusal}
+use Rattle.verdicts.specs.Compared.{Told, Gave, Refused, told, refused_with, verdict}
 use Rattle.lines.specs.Text.{first_lines, same_line, text}
-use Rattle.lines.specs.Placed.{room_for}
 
 -- the line of a cell: h is what it holds, read from v
-module _ (cell v : ℤ) (h : Held) (e : v ≡ cell) (d : h ≡ held v) where
+module _ (cell v : ℤ) (h : Option Item) (e : v ≡ cell) (d : h ≡ held v) where
   of_held : held_line h ≡ item_line cell
   unfolding item_line
   of_held = ap held_line (d ∙ ap held e)
 
-  pub line_stray : h ≡ Held.Stray → [] ≡ item_line cell
+  pub line_stray : h ≡ None → [] ≡ item_line cell
   unfolding held_line
   line_stray f = sym (ap held_line f) ∙ of_held
 
-  module _ (i : Item) (f : h ≡ Held.Item i) where
+  module _ (i : Item) (f : h ≡ Some i) where
     pub line_integer : (y z : ℤ) → y ≡ z → i ≡ Integer z → integer_line y ≡ item_line cell
     unfolding held_line
-    line_integer y z k g = ap integer_line k ∙ sym (ap held_line (f ∙ ap Held.Item g)) ∙ of_held
+    line_integer y z k g = ap integer_line k ∙ sym (ap held_line (f ∙ ap Some g)) ∙ of_held
 
     pub line_truth : (b : Bool) → i ≡ Truth b → truth_line b ≡ item_line cell
     unfolding held_line
-    line_truth b g = sym (ap held_line (f ∙ ap Held.Item g)) ∙ of_held
+    line_truth b g = sym (ap held_line (f ∙ ap Some g)) ∙ of_held
 
     pub line_node : (r : Rank) → i ≡ Node r → node_line r.0 ≡ item_line cell
     unfolding held_line
-    line_node r g = sym (ap held_line (f ∙ ap Held.Item g)) ∙ of_held
+    line_node r g = sym (ap held_line (f ∙ ap Some g)) ∙ of_held
 
 pub lines_more : (cells : List ℤ) (i : ℕ) (z : ℤ) → z ≡ get_or cells i (pos 0) → i < length cells
     → gather item_line (take i cells) ++ item_line z ≡ gather item_line (take (i + 1) cells)
@@ -62,35 +59,29 @@ lines_more cells i z e h =
     ∙ ap (gather item_line) (sym (take-suc cells i (pos 0) h) ∙ ap (λ (k : ℕ). take k cells) (sym (add-one i)))
 
 -- what was told
-module _ (t : Told) (xs : List ℤ) where
-  module _ (n : ℕ) (e : t ≡ Gave n) where
-    pub first_gave : items_line n ++ gather item_line (take n xs) ≡ first_lines t xs
+module _ (t : Result ℕ Refusal) (xs : List ℤ) where
+  module _ (n : ℕ) (e : t ≡ Ok n) where
+    pub first_gave : items_line n ++ gather item_line (take n xs) ≡ first_lines (told t) xs
     unfolding first_lines
-    first_gave = sym (ap (λ (u : Told). first_lines u xs) e)
+    first_gave = sym (ap (λ (u : Result ℕ Refusal). first_lines (told u) xs) e)
 
-    pub room_gave : room_for t ≡ 32 * n + 128
-    unfolding room_for
-    room_gave = ap room_for e
-
-  module _ (n p : ℕ) (e : t ≡ Refused n p) where
-    pub first_refused : refused_line n p ≡ first_lines t xs
+  module _ (r : Refusal) (e : t ≡ Err r) where
+    pub first_refused : refused_line (number_of r.reason) r.place ≡ first_lines (told t) xs
     unfolding first_lines
-    first_refused = sym (ap (λ (u : Told). first_lines u xs) e)
+    first_refused = sym (ap (λ (u : Result ℕ Refusal). first_lines (told u) xs) e)
 
-    pub room_refused : room_for t ≡ 128
-    unfolding room_for
-    room_refused = ap room_for e
-
-module _ (t ran : Told) (xs : List ℤ) (evaluated : Told) (ys : List ℤ) where
-  pub text_gave : (k : ℕ) (v : Verdict) → t ≡ Gave k → v ≡ verdict ran xs evaluated ys
-      → first_lines ran xs ++ same_line v ≡ text t ran xs evaluated ys
+module _ (t : Result ℕ Refusal) (ran : Told) (xs : List ℤ) (evaluated : Told) (ys : List ℤ) where
+  pub text_gave : (k : ℕ) (v : Verdict) → t ≡ Ok k → v ≡ verdict ran xs evaluated ys
+      → first_lines ran xs ++ same_line v ≡ text (told t) ran xs evaluated ys
   unfolding text
   text_gave k v e d =
-      ap (λ (w : Verdict). first_lines ran xs ++ same_line w) d ∙ sym (ap (λ (u : Told). text u ran xs evaluated ys) e)
+      ap (λ (w : Verdict). first_lines ran xs ++ same_line w) d
+      ∙ sym (ap (λ (u : Result ℕ Refusal). text (told u) ran xs evaluated ys) e)
 
-  pub text_refused : (n p : ℕ) → t ≡ Refused n p → refused_line n p ≡ text t ran xs evaluated ys
+  pub text_refused :
+      (r : Refusal) → t ≡ Err r → refused_line (number_of r.reason) r.place ≡ text (told t) ran xs evaluated ys
   unfolding text
-  text_refused n p e = sym (ap (λ (u : Told). text u ran xs evaluated ys) e)
+  text_refused r e = sym (ap (λ (u : Result ℕ Refusal). text (told u) ran xs evaluated ys) e)
 
 -- where the runner gave 6, what the evaluator told does not matter
 pub text_room : (t ran : Told) (xs : List ℤ) (evaluated other : Told) (ys zs : List ℤ) → refused_with 6 ran ≡ true

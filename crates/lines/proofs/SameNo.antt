@@ -2,6 +2,7 @@
 --     starts w t, holds w t     word w stands at the start of t; it stands somewhere in t
 --     quiet-..                  in front of any text, a line of another kind adds no `same no`
 --     no_same_no                so there is none in all lines, unless the verdict is that the engines differ
+use Rattle.std.specs.Prelude.{Option, Some, None}
 use Prim.Native.Nat.{ℕ, zero, suc, ◌+◌, ◌/◌, ◌%◌, ◌<◌}
 use mathlib.Core.Path.{◌≡◌, refl, sym, ap, ◌∙◌}
 use mathlib.Core.List.{List, [], ◌∷◌, ◌++◌, append-nil, append_assoc}
@@ -12,19 +13,16 @@ use borrow.Author.Tests.{ltb-true, eq-eqb, ne_eqb}
 use lib.Dec.{eqb, ltb}
 use lib.IntN.{ℤ, pos, negsuc}
 use lib.ListN.{take}
+use Rattle.cells.specs.declared.Item.{Item}
 use Rattle.cells.specs.Cell.{held}
 use Rattle.cells.specs.declared.Item.TheVariants.{Integer, Truth, Node}
-use Rattle.cells.specs.declared.Held.{Held}
-use Rattle.cells.specs.declared.Held.TheVariants as Held
 use Rattle.laws.specs.Lists.{gather}
 use Rattle.laws.proofs.Booleans.{or_right}
-use Rattle.verdicts.specs.declared.Told.{Told}
-use Rattle.verdicts.specs.declared.Told.TheVariants.{Gave, Refused}
 use Rattle.verdicts.specs.declared.Verdict.{Verdict}
 use Rattle.verdicts.specs.declared.Verdict.TheVariants.{Agree, Differ, Room}
 use Rattle.pen.specs.Decimal.{digits, decimal, signed}
 use Rattle.lines.specs.Text.{Text, integer_line, truth_line, node_line, held_line, item_line}
-use Rattle.verdicts.specs.Compared.{verdict}
+use Rattle.verdicts.specs.Compared.{Told, Gave, Refused, verdict}
 use Rattle.lines.specs.Text.{refused_line, items_line, first_lines, same_line, text, line_end, at_word}
 use Rattle.lines.specs.Text.{same_no, Nowhere}
 
@@ -95,13 +93,13 @@ unfolding signed holds starts
 quiet_signed (pos n) t = quiet_end n t
 quiet_signed (negsuc n) t = quiet_end (suc n) t
 
-quiet_item : (h : Held) (t : Text) → said (held_line h ++ t) ≡ said t
+quiet_item : (h : Option Item) (t : Text) → said (held_line h ++ t) ≡ said t
 unfolding held_line integer_line truth_line node_line holds starts
-quiet_item (Held.Item (Integer z)) t = quiet_signed z t
-quiet_item (Held.Item (Truth true)) t = refl
-quiet_item (Held.Item (Truth false)) t = refl
-quiet_item (Held.Item (Node r)) t = quiet_end r.0 t
-quiet_item Held.Stray t = refl
+quiet_item (Some (Integer z)) t = quiet_signed z t
+quiet_item (Some (Truth true)) t = refl
+quiet_item (Some (Truth false)) t = refl
+quiet_item (Some (Node r)) t = quiet_end r.0 t
+quiet_item None t = refl
 
 quiet_items : (xs : List ℤ) (t : Text) → said (gather item_line xs ++ t) ≡ said t
 unfolding gather item_line

@@ -3,14 +3,13 @@
 --     room_for t                       bytes that are enough for all lines
 use Rattle.std.specs.Prelude.{ℕ, ◌+◌, ◌*◌, ◌≤◌, ◌≡◌, List, length}
 use Rattle.laws.specs.Rows.{laid}
-use Rattle.verdicts.specs.declared.Told.{Told}
-use Rattle.verdicts.specs.declared.Told.TheVariants.{Gave, Refused}
+use Rattle.verdicts.specs.Compared.{Told, Gave, Refused}
 
 pub record Put (entry exit : List ℕ) (at : ℕ) (bytes : List ℕ) (end : ℕ) : Type 0 where
   pub written : exit ≡ laid entry at bytes
   pub ended : end ≡ at + length bytes
   pub fits : end ≤ length entry
 
-unfoldable pub room_for : Told → ℕ
+abbrev pub room_for : Told → ℕ
 room_for (Gave n) = 32 * n + 128
 room_for (Refused n p) = 128

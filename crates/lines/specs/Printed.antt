@@ -8,8 +8,7 @@ use Rattle.std.specs.Prelude.{ℕ, List, ℤ, take, get_or}
 use Rattle.laws.specs.Rows.{rows_at}
 use Rattle.meaning.specs.Operators.{column}
 use Rattle.meaning.specs.Calls.{Answer, gives, refused, Outcome, translate_call, run_call, evaluate_call}
-use Rattle.verdicts.specs.declared.Told.{Told}
-use Rattle.verdicts.specs.declared.Told.TheVariants.{Gave, Refused}
+use Rattle.verdicts.specs.Compared.{Told, Gave, Refused}
 use Rattle.lines.specs.Text.{Text, text}
 
 -- value k of an answer, 0 of a refusal

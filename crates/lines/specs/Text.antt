@@ -16,18 +16,15 @@
 --     text ..             all lines: of what the translator, the runner and the evaluator told, and both engines' items
 --     same_no              the bytes `same no`
 --     Nowhere word t      the bytes of a word stand nowhere in text t
-use Rattle.std.specs.Prelude.{ℕ, ◌≡◌, List, [], ◌∷◌, ◌++◌, Bool, true, false, ℤ, take}
+use Rattle.std.specs.Prelude.{ℕ, ◌≡◌, List, [], ◌∷◌, ◌++◌, Bool, true, false, ℤ, take, Option, Some, None}
+use Rattle.cells.specs.declared.Item.{Item}
 use Rattle.cells.specs.Cell.{held}
 use Rattle.cells.specs.declared.Item.TheVariants.{Integer, Truth, Node}
-use Rattle.cells.specs.declared.Held.{Held}
-use Rattle.cells.specs.declared.Held.TheVariants.{Item, Stray}
 use Rattle.laws.specs.Lists.{gather}
 use Rattle.pen.specs.Decimal.{decimal, signed}
-use Rattle.verdicts.specs.declared.Told.{Told}
-use Rattle.verdicts.specs.declared.Told.TheVariants.{Gave, Refused}
 use Rattle.verdicts.specs.declared.Verdict.{Verdict}
 use Rattle.verdicts.specs.declared.Verdict.TheVariants.{Agree, Differ, Room}
-use Rattle.verdicts.specs.Compared.{verdict}
+use Rattle.verdicts.specs.Compared.{Told, Gave, Refused, verdict}
 
 abbrev pub Text : Type 0
 Text = List ℕ
@@ -82,11 +79,11 @@ truth_line b = bool_word ++ (truth_digit b ++ line_end)
 unfoldable pub node_line : ℕ → Text
 node_line r = node_word ++ (decimal r ++ line_end)
 
-unfoldable pub held_line : Held → Text
-held_line (Item (Integer z)) = integer_line z
-held_line (Item (Truth b)) = truth_line b
-held_line (Item (Node r)) = node_line r.0
-held_line Stray = []
+unfoldable pub held_line : Option Item → Text
+held_line (Some (Integer z)) = integer_line z
+held_line (Some (Truth b)) = truth_line b
+held_line (Some (Node r)) = node_line r.0
+held_line None = []
 
 unfoldable pub item_line : ℤ → Text
 item_line z = held_line (held z)

@@ -1,11 +1,11 @@
 // Items put into a lent slice.
-ghost use Rattle.std.specs.Prelude.{◌++◌, ◌+◌, ◌*◌, ◌^◌, ◌≤◌, ◌<◌, length, take};
+ghost use Rattle.std.specs.Prelude.{◌++◌, ◌+◌, ◌*◌, ◌^◌, ◌≤◌, ◌<◌, length};
 ghost use Rattle.laws.specs.Lists.{gather};
 ghost use Rattle.pen.specs.Penned.{Pens};
 ghost use Rattle.pen.specs.Decimal.{decimal};
 ghost use Rattle.lines.specs.Text;
 
-use cells::{Held, Item};
+use cells::Item;
 
 // A word, a number in decimal, and the line's end.
 pub fn put_line(text: &mut [u8], at: usize, word: &[u8], n: usize) -> usize
@@ -45,29 +45,23 @@ fn put_item(text: &mut [u8], at: usize, cell: i64) -> usize
     requires { at + 32 < 2 ^ 64 }
     ensures { Pens at (Text.item_line cell) text.old text.new result × (result ≤ at + 32) }
 {
-    let held = cells::item_of(cell);
-    let Held::Item(item) = held else {
-        return at;
-    };
-    match item {
-        Item::Integer(z) => put_integer(text, at, z),
-        Item::Truth(b) => put_truth(text, at, b),
-        Item::Node(r) => put_line(text, at, b"node ", r.0),
+    match cells::item_of(cell) {
+        Some(Item::Integer(z)) => put_integer(text, at, z),
+        Some(Item::Truth(b)) => put_truth(text, at, b),
+        Some(Item::Node(rank)) => put_line(text, at, b"node ", rank.0),
+        None => at,
     }
 }
 
-// The lines of the first n items, one after another.
-pub fn put_items(text: &mut [u8], at: usize, cells: &[i64], n: usize) -> usize
-    requires { (at + 32 * n < 2 ^ 64) × (n ≤ length cells.now) }
-    ensures { Pens at (gather Text.item_line (take n cells.now))
-        text.old text.new result
-        × (result ≤ at + 32 * n) }
+// The lines of items, one after another.
+pub fn put_items(text: &mut [u8], at: usize, cells: &[i64]) -> usize
+    requires { at + 32 * length cells.now < 2 ^ 64 }
+    ensures { Pens at (gather Text.item_line cells.now) text.old text.new result
+        × (result ≤ at + 32 * length cells.now) }
 {
     let mut end = at;
-    let mut i: usize = 0;
-    while i < n {
-        end = put_item(text, end, cells[i]);
-        i += 1;
+    for cell in cells {
+        end = put_item(text, end, *cell);
     }
     end
 }

@@ -4,13 +4,16 @@
 mod items;
 
 ghost use Rattle.std.specs.Prelude.{◌≡◌, ◌+◌, ◌*◌, ◌^◌, ◌≤◌, ◌<◌, length};
+ghost use Rattle.codes.specs.Refusals.{number_of};
 ghost use Rattle.laws.specs.Rows.{rows_at, laid};
 ghost use Rattle.meaning.specs.Operators;
 ghost use Rattle.pen.specs.Penned.{Pens};
 ghost use Rattle.lines.specs.Text;
+ghost use Rattle.verdicts.specs.Compared;
 ghost use Rattle.verdicts.specs.Compared.{GaveStands};
 ghost use Rattle.lines.specs.Placed.{Put, room_for};
 
+use codes::refusals::Refusal;
 use verdicts::comparing::verdict;
 use verdicts::{Told, Verdict};
 
@@ -21,36 +24,34 @@ pub fn copy_items(work: &[i64], start: usize, rows: usize, kept: &mut [i64])
     ensures { kept.new
         ≡ laid kept.old 0 (Operators.column (rows_at work.now start rows 3) 2) }
 {
-    let mut i: usize = 0;
-    while i < rows {
+    for i in 0..rows {
         kept[i] = work[start + i * 3 + 2];
-        i += 1;
     }
 }
 
 // `refused n at p`.
-fn put_refusal(text: &mut [u8], at: usize, number: usize, place: usize) -> usize
+fn put_refusal(text: &mut [u8], at: usize, refusal: Refusal) -> usize
     requires { at + 64 < 2 ^ 64 }
-    ensures { Pens at (Text.refused_line number place) text.old text.new result
+    ensures { Pens at (Text.refused_line (number_of refusal.reason) refusal.place) text.old text.new result
         × (result ≤ at + 64) }
 {
     let a = pen::put_word(text, at, b"refused ");
-    let b = pen::put_number(text, a, number);
-    items::put_line(text, b, b" at ", place)
+    let b = pen::put_number(text, a, refusal.number());
+    items::put_line(text, b, b" at ", refusal.place)
 }
 
 // The number of items and each item, or the refusal.
 fn put_first(text: &mut [u8], at: usize, told: Told, cells: &[i64]) -> usize
-    requires { (at + room_for told < 2 ^ 64) × GaveStands (length cells.now) told }
-    ensures { Pens at (Text.first_lines told cells.now) text.old text.new result
-        × (result + 64 ≤ at + room_for told) }
+    requires { (at + room_for (Compared.told told) < 2 ^ 64) × GaveStands (length cells.now) (Compared.told told) }
+    ensures { Pens at (Text.first_lines (Compared.told told) cells.now) text.old text.new result
+        × (result + 64 ≤ at + room_for (Compared.told told)) }
 {
     match told {
-        Told::Gave(n) => {
+        Ok(n) => {
             let a = items::put_line(text, at, b"items ", n);
-            items::put_items(text, a, cells, n)
+            items::put_items(text, a, &cells[..n])
         }
-        Told::Refused(number, place) => put_refusal(text, at, number, place),
+        Err(refusal) => put_refusal(text, at, refusal),
     }
 }
 
@@ -76,14 +77,16 @@ pub fn write(
     evaluated: Told,
     others: &[i64],
 ) -> usize
-    requires in_bounds { (128 ≤ length text.old) × (room_for ran ≤ length text.old) }
-    requires gave_stands { GaveStands (length cells.now) ran × GaveStands (length others.now) evaluated }
+    requires in_bounds { (128 ≤ length text.old) × (room_for (Compared.told ran) ≤ length text.old) }
+    requires gave_stands { GaveStands (length cells.now) (Compared.told ran)
+        × GaveStands (length others.now) (Compared.told evaluated) }
     ensures { Put text.old text.new 0
-        (Text.text translated ran cells.now evaluated others.now) result }
+        (Text.text (Compared.told translated) (Compared.told ran) cells.now (Compared.told evaluated)
+        others.now) result }
 {
     match translated {
-        Told::Refused(number, place) => put_refusal(text, 0, number, place),
-        Told::Gave(_) => {
+        Err(refusal) => put_refusal(text, 0, refusal),
+        Ok(_) => {
             let a = put_first(text, 0, ran, cells);
             let v = verdict(ran, cells, evaluated, others);
             put_verdict(text, a, v)

@@ -3,6 +3,7 @@
 -- stands in the lent slice afterwards. These are what the calls promise.
 --     Answer                 gives its values, in the order that document 01 names them; or refused number place, all
 --                            else 0
+--     refused_by r           what a refusal answers
 --     Outcome A              an answer, and what is left in the lent slice
 --     refusal z lent n p     the outcome of a refusal: number and place, and z in all that was lent
 --     last_table ts           the last table
@@ -17,6 +18,8 @@
 --     evaluate_call ..        items, count                  1 2 3, then 4, then 6 and 7
 use Rattle.std.specs.Prelude.{ℕ, zero, suc, ◌+◌, ◌-◌, ◌*◌, min, List, [], ◌∷◌, ◌++◌, Bool, true, false, cond, leb, ℤ, pos, length, replicate}
 use Rattle.codes.specs.Limits.{most_operators, most_cells}
+use Rattle.codes.specs.Refusals.{number_of}
+use Rattle.codes.specs.declared.refusals.Refusal.{Refusal}
 use Rattle.laws.specs.Lists.{gather}
 use Rattle.laws.specs.Rows.{flat, padded}
 use Rattle.laws.specs.Attempt.{Reading, refuses, reads, reading, unless, Work, full, failed, done}
@@ -33,6 +36,9 @@ use Rattle.meaning.specs.Written.{written}
 pub data Answer : Type 0 where
   gives : List ℕ → Answer
   refused : (number place : ℕ) → Answer
+
+abbrev pub refused_by : Refusal → Answer
+refused_by r = refused (number_of r.reason) r.place
 
 pub record Outcome (A : Type 0) : Type 0 where
   pub answer : Answer

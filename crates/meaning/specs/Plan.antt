@@ -19,11 +19,9 @@
 --     ended ps           none: 5 at 0; the last of width 3, else 5 at its record
 --     plan_from ..        the operators from an offset on, `left` more allowed
 --     plan_read bs        the whole plan, or refusal 5 at its place
-use Rattle.std.specs.Prelude.{ℕ, zero, suc, ◌+◌, List, [], ◌∷◌, ◌++◌, map, Bool, true, false, cond, ◌&&◌, ◌||◌, ltb, leb, eqb, ℤ, length, get_or, take, drop}
+use Rattle.std.specs.Prelude.{ℕ, zero, suc, ◌+◌, List, [], ◌∷◌, ◌++◌, map, Bool, true, false, cond, ◌&&◌, ◌||◌, ltb, leb, eqb, ℤ, length, get_or, take, drop, Option, Some, None}
 use Rattle.cells.specs.declared.Item.{Item}
 use Rattle.cells.specs.declared.Item.TheVariants.{Integer, Truth, Node}
-use Rattle.cells.specs.declared.Held.{Held}
-use Rattle.cells.specs.declared.Held.TheVariants as Held
 use Rattle.cells.specs.Bytes.{byte_at, word, int8, fits}
 use Rattle.cells.specs.Cell.{held}
 use Rattle.laws.specs.Lists.{all}
@@ -96,11 +94,11 @@ abbrev pub mark_ro : ℕ
 mark_ro = 0x524F
 
 -- RA's cell is an integer or a boolean
-unfoldable pub plain_in : Held → Bool
-plain_in (Held.Item (Integer z)) = true
-plain_in (Held.Item (Truth b)) = true
-plain_in (Held.Item (Node r)) = false
-plain_in Held.Stray = false
+unfoldable pub plain_in : Option Item → Bool
+plain_in (Some (Integer z)) = true
+plain_in (Some (Truth b)) = true
+plain_in (Some (Node r)) = false
+plain_in None = false
 
 -- the n columns from an offset on
 unfoldable pub columns_at : List ℕ → ℕ → ℕ → List ℕ

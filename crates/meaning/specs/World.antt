@@ -23,12 +23,10 @@
 --     member xs k              member k of a list, counted from 0
 --     root_of c k               the root of fragment k, counted from 1
 --     world_of c                the world of one catalogue
-use Rattle.std.specs.Prelude.{ℕ, zero, suc, ◌+◌, ◌-◌, List, [], ◌∷◌, map, Bool, true, false, not, cond, ◌&&◌, ◌||◌, ltb, leb, eqb, ℤ, pos, negsuc, ◌+ℤ◌, ◌-ℤ◌, ◌*ℤ◌}
+use Rattle.std.specs.Prelude.{ℕ, zero, suc, ◌+◌, ◌-◌, List, [], ◌∷◌, map, Bool, true, false, not, cond, ◌&&◌, ◌||◌, ltb, leb, eqb, ℤ, pos, negsuc, ◌+ℤ◌, ◌-ℤ◌, ◌*ℤ◌, Option, Some, None}
 use Rattle.std.specs.Int.Signed.{lt_z, quot_z}
 use Rattle.cells.specs.declared.Item.{Item}
 use Rattle.cells.specs.declared.Item.TheVariants.{Integer, Truth, Node}
-use Rattle.cells.specs.declared.Held.{Held}
-use Rattle.cells.specs.declared.Held.TheVariants as Held
 use Rattle.codes.specs.declared.Function.{Function}
 use Rattle.codes.specs.declared.Function.TheVariants.{Add, Subtract, Multiply, Divide, Equal, Less}
 use Rattle.codes.specs.declared.Axis.{Axis}
@@ -49,11 +47,11 @@ pub record World : Type 0 where
   pub step : Axis → Test → List ℤ → Attempt (List ℤ)
 
 -- the integer that a cell holds
-unfoldable pub integer_in : Held → Attempt ℤ
-integer_in (Held.Item (Integer z)) = gives z
-integer_in (Held.Item (Truth b)) = fails
-integer_in (Held.Item (Node r)) = fails
-integer_in Held.Stray = fails
+unfoldable pub integer_in : Option Item → Attempt ℤ
+integer_in (Some (Integer z)) = gives z
+integer_in (Some (Truth b)) = fails
+integer_in (Some (Node r)) = fails
+integer_in None = fails
 
 unfoldable pub integer_of : ℤ → Attempt ℤ
 integer_of a = integer_in (held a)
@@ -78,23 +76,23 @@ unfoldable pub arith : Function → ℤ → ℤ → Attempt ℤ
 arith f a b = attempt (integer_of a) (λ x. attempt (integer_of b) (λ y. function f x y))
 
 -- integer and boolean are themselves, a text gives its number, an element fails
-unfoldable pub value_in : Catalogue → Held → Attempt ℤ
-value_in c (Held.Item (Integer z)) = gives z
-value_in c (Held.Item (Truth b)) = gives (truth_cell b)
-value_in c (Held.Item (Node r)) = provided (ltb r.0 c.rows && eqb (c.kind r.0) text) (gives (c.prop r.0))
-value_in c Held.Stray = fails
+unfoldable pub value_in : Catalogue → Option Item → Attempt ℤ
+value_in c (Some (Integer z)) = gives z
+value_in c (Some (Truth b)) = gives (truth_cell b)
+value_in c (Some (Node r)) = provided (ltb r.0 c.rows && eqb (c.kind r.0) text) (gives (c.prop r.0))
+value_in c None = fails
 
 unfoldable pub value : Catalogue → ℤ → Attempt ℤ
 value c a = value_in c (held a)
 
 -- no items: false; first item a node: true; one boolean: itself; one integer: true unless 0; else fails
-unfoldable pub truth_from : Held → List ℤ → Attempt Bool
-truth_from (Held.Item (Node r)) others = gives true
-truth_from (Held.Item (Truth b)) [] = gives b
-truth_from (Held.Item (Truth b)) (y ∷ ys) = fails
-truth_from (Held.Item (Integer z)) [] = gives (not (same z (pos 0)))
-truth_from (Held.Item (Integer z)) (y ∷ ys) = fails
-truth_from Held.Stray others = fails
+unfoldable pub truth_from : Option Item → List ℤ → Attempt Bool
+truth_from (Some (Node r)) others = gives true
+truth_from (Some (Truth b)) [] = gives b
+truth_from (Some (Truth b)) (y ∷ ys) = fails
+truth_from (Some (Integer z)) [] = gives (not (same z (pos 0)))
+truth_from (Some (Integer z)) (y ∷ ys) = fails
+truth_from None others = fails
 
 unfoldable pub truth : List ℤ → Attempt Bool
 truth [] = gives false
@@ -133,11 +131,11 @@ passes c Text v = eqb (c.kind v) text
 passes c (Named n) v = eqb (c.kind v) element && same (c.prop v) (pos n)
 
 -- the rank of a node of this catalogue
-unfoldable pub rank_in : Catalogue → Held → Attempt ℕ
-rank_in c (Held.Item (Node r)) = provided (ltb r.0 c.rows) (gives r.0)
-rank_in c (Held.Item (Truth b)) = fails
-rank_in c (Held.Item (Integer z)) = fails
-rank_in c Held.Stray = fails
+unfoldable pub rank_in : Catalogue → Option Item → Attempt ℕ
+rank_in c (Some (Node r)) = provided (ltb r.0 c.rows) (gives r.0)
+rank_in c (Some (Truth b)) = fails
+rank_in c (Some (Integer z)) = fails
+rank_in c None = fails
 
 unfoldable pub rank_of : Catalogue → ℤ → Attempt ℕ
 rank_of c a = rank_in c (held a)

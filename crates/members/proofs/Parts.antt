@@ -131,7 +131,8 @@ HasGroup xs s c i p =
     × (p.width ≡ s.width)
     × (0 < p.rows)
     × (in_front (table_at xs p) c ≡ cell_at (table_at xs s) c i)
-    × (group_of (table_at xs p) c (cell_at (table_at xs s) c i) ≡ group_of (table_at xs s) c (cell_at (table_at xs s) c i))
+    × (group_of (table_at xs p) c (cell_at (table_at xs s) c i)
+    ≡ group_of (table_at xs s) c (cell_at (table_at xs s) c i))
 
 module _ (xs : List ℤ) (s : Stand) (c i : ℕ) (inside : i < s.rows) where
   abbrev t : Table

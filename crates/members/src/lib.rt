@@ -9,16 +9,8 @@ ghost use Rattle.tables.specs.Order;
 ghost use Rattle.members.specs.Grouped;
 
 use tables::Stand;
-use tables::order::occurs;
-
-// Column c of row i.
-pub fn cell_at(work: &[i64], s: Stand, c: usize, i: usize) -> i64
-    requires { Inside (length work.now) s × (c < s.width) × (i < s.rows) }
-    ensures { result ≡ Order.cell_at (table_at work.now s) c i }
-{
-    let a = s.at + i * s.width;
-    work[a + c]
-}
+pub use tables::order::cell_at;
+use tables::order::{holds, occurs};
 
 // Whether row i opens a group: its cell of column c stands in no row above. Where the column climbs (`up`) only the
 // row just above is asked, else each of them.
@@ -32,9 +24,10 @@ pub fn opens(work: &[i64], s: Stand, c: usize, up: bool, i: usize) -> bool
     }
     let cell = cell_at(work, s, c, i);
     if up {
-        return !cells::same(cell, cell_at(work, s, c, i - 1));
+        return !holds(work, s, c, i - 1, cell);
     }
-    !occurs(work, cell, s.at, i, s.width, c)
+    let above = Stand { rows: i, ..s };
+    !occurs(work, cell, above, c)
 }
 
 // How many rows, from the first on, hold the first row's cell of column c. Those rows are looked at once.
@@ -44,14 +37,12 @@ fn run(work: &[i64], s: Stand, c: usize) -> usize
         (Cell.same (Grouped.in_front (table_at work.now s) c)) (column (table_at work.now s) c)) }
 {
     let x = cell_at(work, s, c, 0);
-    let mut i: usize = 0;
-    while i < s.rows {
-        if !cells::same(x, cell_at(work, s, c, i)) {
+    for i in 0..s.rows {
+        if !holds(work, s, c, i, x) {
             return i;
         }
-        i += 1;
     }
-    i
+    s.rows
 }
 
 // The part of the table, from row i on, that has all rows of the group that row i opens: the rows that hold its cell,
@@ -60,7 +51,8 @@ pub fn part(work: &[i64], s: Stand, c: usize, up: bool, i: usize) -> Stand
     requires inside { Inside (length work.now) s × (c < s.width) × (i < s.rows) }
     requires up_value { up ≡ Order.climbs (column (table_at work.now s) c) }
     requires i_value { Grouped.opening (table_at work.now s) c i ≡ true }
-    ensures { (result.at + result.rows * result.width ≤ s.at + s.rows * s.width) × (result.width ≡ s.width) × (0 < result.rows)
+    ensures { (result.at + result.rows * result.width ≤ s.at + s.rows * s.width) × (result.width ≡ s.width)
+        × (0 < result.rows)
         × (Grouped.in_front (table_at work.now result) c ≡ Order.cell_at (table_at work.now s) c i)
         × (group_of (table_at work.now result) c (Order.cell_at (table_at work.now s) c i)
         ≡ group_of (table_at work.now s) c (Order.cell_at (table_at work.now s) c i)) }
@@ -68,14 +60,13 @@ pub fn part(work: &[i64], s: Stand, c: usize, up: bool, i: usize) -> Stand
     let left = Stand {
         at: s.at + i * s.width,
         rows: s.rows - i,
-        width: s.width,
+        ..s
     };
     if !up {
         return left;
     }
     Stand {
-        at: left.at,
         rows: run(work, left, c),
-        width: left.width,
+        ..left
     }
 }

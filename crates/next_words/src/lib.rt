@@ -5,111 +5,72 @@ ghost use Rattle.std.specs.Prelude.{◌≡◌, ◌≤◌, ◌<◌, length, drop}
 ghost use Rattle.parsing.specs.Reader;
 ghost use Rattle.spelling.specs.Answers;
 
-use numerals::{Fixed, byte, spaces, word};
+use numerals::{Read, Stuck, byte};
 use parsing::{Ends, Next};
-use spelling::{Before, NextRead, enter};
+use spelling::{Before, NextRead, enter, spelled};
 
 // What a part may end with.
 fn by_text(ends: Ends) -> bool
     ensures { result ≡ Reader.by_text ends }
 {
-    match ends {
-        Ends::WithText => true,
-        Ends::WithList => false,
-        Ends::WithCall => false,
-        Ends::WithReturn => false,
-        Ends::WithElse => false,
-    }
+    ends == Ends::WithText
 }
 
 fn by_comma(ends: Ends) -> bool
     ensures { result ≡ Reader.by_comma ends }
 {
-    match ends {
-        Ends::WithText => true,
-        Ends::WithList => true,
-        Ends::WithCall => false,
-        Ends::WithReturn => false,
-        Ends::WithElse => false,
-    }
+    matches!(ends, Ends::WithText | Ends::WithList)
 }
 
 fn by_close(ends: Ends) -> bool
     ensures { result ≡ Reader.by_close ends }
 {
-    match ends {
-        Ends::WithText => false,
-        Ends::WithList => true,
-        Ends::WithCall => true,
-        Ends::WithReturn => false,
-        Ends::WithElse => false,
-    }
+    matches!(ends, Ends::WithList | Ends::WithCall)
 }
 
 fn by_return(ends: Ends) -> bool
     ensures { result ≡ Reader.by_return ends }
 {
-    match ends {
-        Ends::WithText => false,
-        Ends::WithList => false,
-        Ends::WithCall => false,
-        Ends::WithReturn => true,
-        Ends::WithElse => false,
-    }
+    ends == Ends::WithReturn
 }
 
 fn by_else(ends: Ends) -> bool
     ensures { result ≡ Reader.by_else ends }
 {
-    match ends {
-        Ends::WithText => false,
-        Ends::WithList => false,
-        Ends::WithCall => false,
-        Ends::WithReturn => false,
-        Ends::WithElse => true,
-    }
-}
-
-// The rest of the word after an operand.
-fn next_rest(text: &[u8], at: usize, rest: &[u8], next: Next) -> NextRead
-    requires { at ≤ length text.now }
-    ensures { Answers.ReadsNext text.now result
-        (Reader.spelled rest.now next (drop at text.now)) }
-{
-    match word(text, at, rest) {
-        Fixed::Past(from) => NextRead::Past(next, from),
-        Fixed::Stuck(place) => NextRead::Stuck(place),
-    }
+    ends == Ends::WithElse
 }
 
 // `else` behind its e, where it may come.
 fn else_rest(text: &[u8], at: usize, otherwise: bool) -> NextRead
     requires { at ≤ length text.now }
-    ensures { Answers.ReadsNext text.now result
+    ensures { Answers.ReadsValue text.now result
         (Answers.else_rest otherwise (drop at text.now)) }
 {
     if !otherwise {
-        return NextRead::Stuck(at);
+        return Err(Stuck(at));
     }
     let b = byte(text, at);
-    if b == b'l' as usize {
-        return next_rest(text, at + 1, b"se", Next::Else);
+    if b == usize::from(b'l') {
+        return spelled(text, at + 1, b"se", Next::Else);
     }
-    NextRead::Stuck(at)
+    Err(Stuck(at))
 }
 
 // `eq` and `else` behind the e, where they may come.
 fn equal_rest(text: &[u8], at: usize, compares: bool, otherwise: bool) -> NextRead
     requires { at ≤ length text.now }
-    ensures { Answers.ReadsNext text.now result
+    ensures { Answers.ReadsValue text.now result
         (Answers.equal_rest compares otherwise (drop at text.now)) }
 {
     if !compares {
         return else_rest(text, at, otherwise);
     }
     let b = byte(text, at);
-    if b == b'q' as usize {
-        return NextRead::Past(Next::Eq, at + 1);
+    if b == usize::from(b'q') {
+        return Ok(Read {
+            what: Next::Eq,
+            next: at + 1,
+        });
     }
     else_rest(text, at, otherwise)
 }
@@ -117,59 +78,63 @@ fn equal_rest(text: &[u8], at: usize, compares: bool, otherwise: bool) -> NextRe
 // A word of one byte, where it may come.
 fn one_word(text: &[u8], at: usize, may: bool, next: Next) -> NextRead
     requires { at < length text.now }
-    ensures { Answers.ReadsNext text.now result
+    ensures { Answers.ReadsValue text.now result
         (Answers.one_word may next (drop at text.now)) }
 {
     if may {
-        return NextRead::Past(next, at + 1);
+        return Ok(Read {
+            what: next,
+            next: at + 1,
+        });
     }
-    NextRead::Stuck(at)
+    Err(Stuck(at))
 }
 
 // A word of one more byte or more, where it may come.
 fn more_word(text: &[u8], at: usize, may: bool, rest: &[u8], next: Next) -> NextRead
     requires { at < length text.now }
-    ensures { Answers.ReadsNext text.now result
+    ensures { Answers.ReadsValue text.now result
         (Answers.more_word may rest.now next (drop at text.now)) }
 {
     if may {
-        return next_rest(text, at + 1, rest, next);
+        return spelled(text, at + 1, rest, next);
     }
-    NextRead::Stuck(at)
+    Err(Stuck(at))
 }
 
 // `eq` and `else` from the e on.
 fn equal_word(text: &[u8], at: usize, compares: bool, otherwise: bool) -> NextRead
     requires { at < length text.now }
-    ensures { Answers.ReadsNext text.now result
+    ensures { Answers.ReadsValue text.now result
         (Answers.equal_word compares otherwise (drop at text.now)) }
 {
-    if compares {
-        return equal_rest(text, at + 1, compares, otherwise);
-    }
-    let may = otherwise;
+    let may = compares || otherwise;
     if may {
         return equal_rest(text, at + 1, compares, otherwise);
     }
-    NextRead::Stuck(at)
+    Err(Stuck(at))
 }
 
 // The end of the text, where a part may end with it.
+#[tactic(auto, unfolding(spelling::specs::Answers::value_told, numerals::specs::Answers::read_place))]
 fn last_word(text: &[u8], at: usize, may: bool) -> NextRead
     requires { at ≤ length text.now }
-    ensures { Answers.ReadsNext text.now result
+    ensures { Answers.ReadsValue text.now result
         (Answers.last_word may (drop at text.now)) }
 {
     if may {
-        return NextRead::Past(Next::End, at);
+        return Ok(Read {
+            what: Next::End,
+            next: at,
+        });
     }
-    NextRead::Stuck(at)
+    Err(Stuck(at))
 }
 
 // What a part ends with.
 fn close_word(text: &[u8], at: usize, ends: Ends) -> NextRead
     requires { at ≤ length text.now }
-    ensures { Answers.ReadsNext text.now result (Answers.close_word ends (drop at text.now)) }
+    ensures { Answers.ReadsValue text.now result (Answers.close_word ends (drop at text.now)) }
 {
     let b = byte(text, at);
     match b {
@@ -177,14 +142,14 @@ fn close_word(text: &[u8], at: usize, ends: Ends) -> NextRead
         41 => one_word(text, at, by_close(ends), Next::Close), // b')'
         114 => more_word(text, at, by_return(ends), b"eturn", Next::Return), // b'r'
         256 => last_word(text, at, by_text(ends)), // the end
-        _ => NextRead::Stuck(at),
+        _ => Err(Stuck(at)),
     }
 }
 
 // A comparison, or what a part ends with.
 fn end_word(text: &[u8], at: usize, ends: Ends, compared: bool) -> NextRead
     requires { at ≤ length text.now }
-    ensures { Answers.ReadsNext text.now result
+    ensures { Answers.ReadsValue text.now result
         (Answers.end_word ends compared (drop at text.now)) }
 {
     let b = byte(text, at);
@@ -198,16 +163,28 @@ fn end_word(text: &[u8], at: usize, ends: Ends, compared: bool) -> NextRead
 // The word after an operand, past the spaces.
 fn next_word(text: &[u8], at: usize, ends: Ends, compared: bool) -> NextRead
     requires { at ≤ length text.now }
-    ensures { Answers.ReadsNext text.now result
+    ensures { Answers.ReadsValue text.now result
         (Answers.next_word ends compared (drop at text.now)) }
 {
     let b = byte(text, at);
     match b {
-        47 => NextRead::Past(Next::Slash, at + 1), // b'/'
-        42 => NextRead::Past(Next::Star, at + 1), // b'*'
-        105 => next_rest(text, at + 1, b"div", Next::Idiv), // b'i'
-        43 => NextRead::Past(Next::Plus, at + 1), // b'+'
-        45 => NextRead::Past(Next::Minus, at + 1), // b'-'
+        47 => Ok(Read {
+            what: Next::Slash,
+            next: at + 1,
+        }), // b'/'
+        42 => Ok(Read {
+            what: Next::Star,
+            next: at + 1,
+        }), // b'*'
+        105 => spelled(text, at + 1, b"div", Next::Idiv), // b'i'
+        43 => Ok(Read {
+            what: Next::Plus,
+            next: at + 1,
+        }), // b'+'
+        45 => Ok(Read {
+            what: Next::Minus,
+            next: at + 1,
+        }), // b'-'
         _ => end_word(text, at, ends, compared),
     }
 }
@@ -215,11 +192,9 @@ fn next_word(text: &[u8], at: usize, ends: Ends, compared: bool) -> NextRead
 // The word after an operand, or the end of the text, as the part allows; behind a comparison none comes again.
 pub fn next(text: &[u8], at: usize, ends: Ends, compared: bool, before: Before) -> NextRead
     requires { at ≤ length text.now }
-    ensures { Answers.ReadsNext text.now result
+    ensures { Answers.ReadsValue text.now result
         (Reader.read_next ends compared (Answers.kind_is before) (drop at text.now)) }
 {
-    match enter(text, at, before) {
-        Fixed::Past(from) => next_word(text, from, ends, compared),
-        Fixed::Stuck(place) => NextRead::Stuck(place),
-    }
+    let from = enter(text, at, before)?;
+    next_word(text, from, ends, compared)
 }

@@ -6,10 +6,11 @@
 --     ranks_append     the ranks of a list are those of its parts
 --     one_more, one_fails_lem      one cell more
 --     marked_none, marked_more, marked_fails     the same, cell by cell through a list
---     rank_node, rank_far, rank_integer, rank_truth, rank_item, rank_stray     the rank of what a cell holds, case
+--     rank_node, rank_far, rank_other, rank_item, rank_stray     the rank of what a cell holds, case
 --     by case
+use Rattle.std.specs.Prelude.{Option, Some, None, Ok}
 use Prim.Native.Nat.{ℕ, suc, ◌+◌, ◌≤◌, ◌<◌}
-use mathlib.Core.Path.{◌≡◌, refl, sym, ap, subst, ◌∙◌}
+use mathlib.Core.Path.{◌≡◌, refl, sym, ap, ◌∙◌}
 use mathlib.Core.Logic.{◌⊎◌, inl, inr}
 use mathlib.Core.List.{List, [], ◌∷◌, ◌++◌}
 use mathlib.Core.Bool.{Bool, true, false, ◌||◌, or-false}
@@ -18,22 +19,19 @@ use native.Mathlib.Numerals.{add-one}
 use native.Mathlib.Omega.{arith}
 use lib.Dec.{eqb, ltb}
 use lib.IntN.{ℤ, pos}
-use lib.ListN.{length, get_or, set, take, drop}
+use lib.ListN.{length, get_or, set, take, drop, replicate}
+use Rattle.std.proofs.lemmas.List.{get_or_append_left, get_or-replicate, length-replicate, length-take-le}
 use lib.Seq.{get_or-set_same, get_or-set_other, take-suc, split_at}
 use borrow.Author.Tests.{eqb-true, eq-eqb, ne_eqb, lt-ltb, le-ltb, ltb-true}
 use Rattle.cells.specs.Cell.{held}
 use Rattle.cells.specs.declared.Rank.{Rank}
 use Rattle.cells.specs.declared.Item.{Item}
 use Rattle.cells.specs.declared.Item.TheVariants.{Integer, Truth, Node}
-use Rattle.cells.specs.declared.Held.{Held}
-use Rattle.cells.specs.declared.Held.TheVariants as Held
 use Rattle.laws.specs.Lists.{any}
 use Rattle.laws.proofs.Booleans.{clash}
 use Rattle.laws.specs.Attempt.{Attempt, fails, gives, attempt, provided}
 use Rattle.meaning.specs.Catalogue.{Catalogue}
 use Rattle.meaning.specs.World.{rank_in, rank_of, ranks_of}
-use Rattle.nodesets.specs.declared.Marked.{Marked}
-use Rattle.nodesets.specs.declared.Marked.TheVariants.{AllNodes, NotANode}
 use Rattle.nodesets.specs.Nodes.{ranks}
 use Rattle.nodesets.specs.Nodes.{among, MarkSet, FromOne, FromAll}
 use Rattle.nodesets.proofs.Tests.{or_cases, or_left, or_right}
@@ -75,6 +73,20 @@ none_among v = refl
 pub holds_none : (n : ℕ) (ms : List Bool) → ((v : ℕ) → v < n → get_or ms v false ≡ false) → MarkSet n [] ms
 holds_none n ms f =
     record { marks = λ v h. f v h ∙ sym (none_among v); there = λ v t. clash t (none_among v) }
+
+-- the first n flags, all taken away, before the rest
+pub cleared :
+    (n : ℕ) (ms off rest : List Bool) → off ≡ replicate (length (take n ms)) false → n ≤ length ms
+    → MarkSet n [] (off ++ rest)
+cleared n ms off rest e h =
+    holds_none n (off ++ rest)
+    (λ v k. get_or_append_left off rest false v (omega (arith, long)) ∙ at v k)
+  where
+    long : length off ≡ n
+    long = ap length e ∙ length-replicate (length (take n ms)) false ∙ length-take-le n ms h
+
+    at : (v : ℕ) → v < n → get_or off v false ≡ false
+    at v k = rw e (get_or-replicate (length (take n ms)) v false false (omega (arith, length-take-le n ms h)))
 
 module _ (n : ℕ) (rs : List ℕ) (ms : List Bool) (o : MarkSet n rs ms) where
   pub holds_more : (r : ℕ) → r < n → n ≤ length ms → MarkSet n (rs ++ (r ∷ [])) (set ms r true)
@@ -155,10 +167,10 @@ module _ (c : Catalogue) where
   ranks_append [] ys = joined_none (ranks_of c ys)
   ranks_append (x ∷ xs) ys = rw (ranks_append xs ys) (regroup (rank_of c x) (ranks_of c xs) (ranks_of c ys))
 
-  module _ (xs : List ℤ) (old : List Bool) (all : FromAll c xs AllNodes old) where
+  module _ (xs : List ℤ) (old : List Bool) (all : FromAll c xs (Ok tt) old) where
     pub one_more :
-        (x : ℤ) (new : List Bool) → c.rows ≤ length old → FromOne c x AllNodes old new
-        → FromAll c (xs ++ (x ∷ [])) AllNodes new
+        (x : ℤ) (new : List Bool) → c.rows ≤ length old → FromOne c x (Ok tt) old new
+        → FromAll c (xs ++ (x ∷ [])) (Ok tt) new
     one_more x new long one = (
       all.0 ++ (one.0 ∷ []),
       ranks_append xs (x ∷ []) ∙ joined_gives all.1 (ranks_one x one.0 one.1),
@@ -168,49 +180,44 @@ module _ (c : Catalogue) where
     pub one_fails_lem : (x : ℤ) (ys : List ℤ) → rank_of c x ≡ fails → ranks_of c (xs ++ (x ∷ ys)) ≡ fails
     one_fails_lem x ys e = ranks_append xs (x ∷ ys) ∙ joined_fails (ranks_of c xs) (ranks_fail x ys e)
 
-  pub marked_none : (ms : List Bool) → MarkSet c.rows [] ms → FromAll c [] AllNodes ms
+  pub marked_none : (ms : List Bool) → MarkSet c.rows [] ms → FromAll c [] (Ok tt) ms
   marked_none ms o = ([], ranks_none, o)
 
   -- the cells up to i, and the cell at i
-  module _
-      (xs : List ℤ) (i : ℕ) (h : i < length xs) (old new : List Bool) (all : FromAll c (take i xs) AllNodes old)
-      (m : Marked) (one : FromOne c (get_or xs i (pos 0)) m old new) where
-    pub marked_more : m ≡ AllNodes → c.rows ≤ length old → FromAll c (take (i + 1) xs) AllNodes new
-    marked_more e long =
-        rw (add-one i, take-suc xs i (pos 0) h)
-        (one_more (take i xs) old all (get_or xs i (pos 0)) new long
-        (subst (λ (k : Marked). FromOne c (get_or xs i (pos 0)) k old new) e one))
+  module _ (xs : List ℤ) (i : ℕ) (h : i < length xs) (old : List Bool) (all : FromAll c (take i xs) (Ok tt) old) where
+    pub marked_more :
+        (new : List Bool) → c.rows ≤ length old → FromOne c (get_or xs i (pos 0)) (Ok tt) old new
+        → FromAll c (take (i + 1) xs) (Ok tt) new
+    marked_more new long one =
+        rw (add-one i, take-suc xs i (pos 0) h) (one_more (take i xs) old all (get_or xs i (pos 0)) new long one)
 
-    pub marked_fails : m ≡ NotANode → ranks_of c xs ≡ fails
+    pub marked_fails : rank_of c (get_or xs i (pos 0)) ≡ fails → ranks_of c xs ≡ fails
     marked_fails e =
         ap (ranks_of c) (split_at xs i (pos 0) h)
-        ∙ one_fails_lem (take i xs) old all (get_or xs i (pos 0)) (drop (suc i) xs)
-        (subst (λ (k : Marked). FromOne c (get_or xs i (pos 0)) k old new) e one).0
+        ∙ one_fails_lem (take i xs) old all (get_or xs i (pos 0)) (drop (suc i) xs) e
 
   -- the rank of an item
   module _ {item : Item} where
     pub rank_node :
-        {r : Rank} {n : ℕ} → item ≡ Node r → c.rows ≡ n → r.0 < n → gives r.0 ≡ rank_in c (Held.Item item)
+        {r : Rank} {n : ℕ} → item ≡ Node r → c.rows ≡ n → r.0 < n → gives r.0 ≡ rank_in c (Some item)
     unfolding rank_in provided
     rank_node {r} {n} e d h = rw (e, d, lt-ltb r.0 n h)
 
-    pub rank_far : {r : Rank} {n : ℕ} → item ≡ Node r → c.rows ≡ n → n ≤ r.0 → fails ≡ rank_in c (Held.Item item)
+    pub rank_far : {r : Rank} {n : ℕ} → item ≡ Node r → c.rows ≡ n → n ≤ r.0 → fails ≡ rank_in c (Some item)
     unfolding rank_in provided
     rank_far {r} {n} e d h = rw (e, d, le-ltb r.0 n h)
 
-    pub rank_integer : {z : ℤ} → item ≡ Integer z → fails ≡ rank_in c (Held.Item item)
+    pub rank_other :
+        ((z : ℤ) × (item ≡ Integer z)) ⊎ ((b : Bool) × (item ≡ Truth b)) → fails ≡ rank_in c (Some item)
     unfolding rank_in
-    rank_integer e = rw e
+    rank_other (inl e) = rw e.1
+    rank_other (inr e) = rw e.1
 
-    pub rank_truth : {b : Bool} → item ≡ Truth b → fails ≡ rank_in c (Held.Item item)
-    unfolding rank_in
-    rank_truth e = rw e
-
-  pub rank_stray : (x : ℤ) → held x ≡ Held.Stray → fails ≡ rank_of c x
+  pub rank_stray : (x : ℤ) → held x ≡ None → fails ≡ rank_of c x
   unfolding rank_of rank_in
   rank_stray x e = rw e
 
-  pub rank_item : (x : ℤ) {item : Item} → held x ≡ Held.Item item → rank_in c (Held.Item item) ≡ rank_of c x
+  pub rank_item : (x : ℤ) {item : Item} → held x ≡ Some item → rank_in c (Some item) ≡ rank_of c x
   unfolding rank_of
   rank_item x e = rw e
 
@@ -219,12 +226,12 @@ module _ (c : Catalogue) where
   by_rank k r true d f = let e : k ≡ r = cc in omega (arith, ltb-true k c.rows d)
   by_rank k r false d f = let z : ◌≡◌ {A = ℕ} 0 1 = cc in absurd (omega arith)
 
-  by_held : (r : ℕ) (h : Held) → rank_in c h ≡ gives r → r < c.rows
+  by_held : (r : ℕ) (h : Option Item) → rank_in c h ≡ gives r → r < c.rows
   unfolding rank_in
-  by_held r (Held.Item (Node k)) f = by_rank k.0 r (ltb k.0 c.rows) refl f
-  by_held r (Held.Item (Truth b)) f = let z : ◌≡◌ {A = ℕ} 0 1 = cc in absurd (omega arith)
-  by_held r (Held.Item (Integer i)) f = let z : ◌≡◌ {A = ℕ} 0 1 = cc in absurd (omega arith)
-  by_held r Held.Stray f = let z : ◌≡◌ {A = ℕ} 0 1 = cc in absurd (omega arith)
+  by_held r (Some (Node k)) f = by_rank k.0 r (ltb k.0 c.rows) refl f
+  by_held r (Some (Truth b)) f = let z : ◌≡◌ {A = ℕ} 0 1 = cc in absurd (omega arith)
+  by_held r (Some (Integer i)) f = let z : ◌≡◌ {A = ℕ} 0 1 = cc in absurd (omega arith)
+  by_held r None f = let z : ◌≡◌ {A = ℕ} 0 1 = cc in absurd (omega arith)
 
   pub rank_below : (x : ℤ) (r : ℕ) → rank_of c x ≡ gives r → r < c.rows
   unfolding rank_of

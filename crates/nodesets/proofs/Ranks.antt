@@ -3,6 +3,7 @@
 --     below_same        tests that agree below n pick the same ranks
 --     ranks_none, ranks_more     the marked ranks below 0, and below n + 1
 --     length_ranks, length_ranks_more, length_ranks_rises     how many they are
+--     count_marked      .. counted as flags
 --     any_hit, any_miss     some marked rank passes; no marked rank passes
 use Prim.Native.Nat.{ℕ, zero, suc, ◌+◌, ◌≤◌, ◌<◌}
 use mathlib.Core.Path.{◌≡◌, refl, sym, ap, ◌∙◌}
@@ -12,7 +13,9 @@ use native.Mathlib.Decide.{ℕ_discrete}
 use native.Mathlib.Numerals.{add-one}
 use native.Mathlib.Omega.{arith}
 use mir.Val.{bool_byte}
-use lib.ListN.{length, get_or, length-append}
+use lib.ListN.{length, get_or, take, length-append}
+use Rattle.std.specs.List.{count_by}
+use Rattle.std.proofs.lemmas.List.Sums.{count_by_more_yes, count_by_more_no}
 use Rattle.laws.specs.Lists.{filter, any, below}
 use Rattle.laws.proofs.Filters.{filter_append, filter_same}
 use Rattle.laws.proofs.Booleans.{clash}
@@ -61,6 +64,21 @@ length_ranks (suc n) ms =
       ap (λ k. length (ranks k ms)) (add-one n),
       byte_few (get_or ms n false),
     )
+
+-- the first n flags, counted
+pub count_marked :
+    (n : ℕ) (ms : List Bool) → n ≤ length ms → count_by (λ (b : Bool). b) (take n ms) ≡ length (ranks n ms)
+count_marked zero ms h = sym (ap length (ranks_none ms))
+count_marked (suc n) ms h = by_flag (get_or ms n false) refl (count_marked n ms (omega arith))
+  where
+    by_flag :
+        (t : Bool) → get_or ms n false ≡ t → count_by (λ (b : Bool). b) (take n ms) ≡ length (ranks n ms)
+        → count_by (λ (b : Bool). b) (take (suc n) ms) ≡ length (ranks (suc n) ms)
+    by_flag true e ih =
+        rw (← add-one n, count_by_more_yes (λ (b : Bool). b) ms n false (omega arith) e, ih, length_ranks_more n ms, e)
+    by_flag false e ih =
+        rw (← add-one n, count_by_more_no (λ (b : Bool). b) ms n false (omega arith) e, ih, length_ranks_more n ms, e)
+        (omega arith)
 
 pub length_ranks_rises : (n v : ℕ) (ms : List Bool) → v ≤ n → length (ranks v ms) ≤ length (ranks n ms)
 length_ranks_rises zero v ms h = omega (arith, ap (λ k. length (ranks k ms)) (none v h))

@@ -10,17 +10,15 @@
 --     rows_of x rs               for each rank of rs the cells of a row: x, and the node's cell
 --     ListedNodes g ms v n at old new   the n marked ranks below v stand from `at` on, as the cells that g makes of
 --                                       them
-use Rattle.std.specs.Prelude.{ℕ, ◌+◌, ◌*◌, ◌≤◌, ◌<◌, ◌≡◌, List, [], ◌∷◌, map, Bool, true, false, eqb, ℤ, length, get_or, set}
+use Rattle.std.specs.Prelude.{ℕ, ◌+◌, ◌*◌, ◌≤◌, ◌<◌, ◌≡◌, List, [], ◌∷◌, map, Bool, true, false, eqb, ℤ, length, get_or, set, Option, Some, None, Result, Ok, Err}
 use Rattle.cells.specs.Cell.{node_cell}
+use Rattle.cells.specs.declared.Rank.{Rank}
 use Rattle.laws.specs.Lists.{filter, any, below}
 use Rattle.laws.specs.Attempt.{Attempt, fails, gives}
 use Rattle.laws.specs.Rows.{laid, flat}
 use Rattle.meaning.specs.Catalogue.{Catalogue}
 use Rattle.meaning.specs.World.{rank_of, ranks_of}
-use Rattle.nodesets.specs.declared.Ranked.{Ranked}
-use Rattle.nodesets.specs.declared.Ranked.TheVariants as Ranked
-use Rattle.nodesets.specs.declared.Marked.{Marked}
-use Rattle.nodesets.specs.declared.Marked.TheVariants as Marked
+use Rattle.nodesets.specs.declared.NotANode.{NotANode}
 
 unfoldable pub ranks : ℕ → List Bool → List ℕ
 ranks n ms = filter (λ r. get_or ms r false) (below n)
@@ -38,17 +36,17 @@ pub record MarkSet (n : ℕ) (rs : List ℕ) (ms : List Bool) : Type 0 where
   pub marks : (v : ℕ) → v < n → get_or ms v false ≡ among rs v
   pub there : (v : ℕ) → among rs v ≡ true → v < n
 
-abbrev pub found : Ranked → Attempt ℕ
-found (Ranked.At r) = gives r.0
-found Ranked.NotANode = fails
+abbrev pub found : Option Rank → Attempt ℕ
+found (Some r) = gives r.0
+found None = fails
 
-abbrev pub FromOne : Catalogue → ℤ → Marked → List Bool → List Bool → Type 0
-FromOne c x Marked.AllNodes old new = (r : ℕ) × (rank_of c x ≡ gives r) × (r < c.rows) × (new ≡ set old r true)
-FromOne c x Marked.NotANode old new = (rank_of c x ≡ fails) × (new ≡ old)
+abbrev pub FromOne : Catalogue → ℤ → Result (Unit {0}) NotANode → List Bool → List Bool → Type 0
+FromOne c x (Ok done) old new = (r : ℕ) × (rank_of c x ≡ gives r) × (r < c.rows) × (new ≡ set old r true)
+FromOne c x (Err e) old new = (rank_of c x ≡ fails) × (new ≡ old)
 
-abbrev pub FromAll : Catalogue → List ℤ → Marked → List Bool → Type 0
-FromAll c xs Marked.AllNodes ms = (rs : List ℕ) × (ranks_of c xs ≡ gives rs) × MarkSet c.rows rs ms
-FromAll c xs Marked.NotANode ms = ranks_of c xs ≡ fails
+abbrev pub FromAll : Catalogue → List ℤ → Result (Unit {0}) NotANode → List Bool → Type 0
+FromAll c xs (Ok done) ms = (rs : List ℕ) × (ranks_of c xs ≡ gives rs) × MarkSet c.rows rs ms
+FromAll c xs (Err e) ms = ranks_of c xs ≡ fails
 
 -- per iteration, the step's nodes: the rows that RX adds, laid end to end
 unfoldable pub rows_of : ℤ → List ℕ → List ℤ

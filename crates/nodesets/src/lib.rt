@@ -3,55 +3,36 @@
 
 ghost use Rattle.std.specs.Prelude.{◌≤◌, ◌≡◌, [], map, length};
 ghost use Rattle.cells.specs.Cell.{node_cell};
-ghost use Rattle.cells.specs.declared.Held.TheVariants as Holding;
 ghost use Rattle.laws.specs.Rows.{laid};
 ghost use Rattle.meaning.specs.Catalogue.{Catalogue};
 ghost use Rattle.meaning.specs.World;
 ghost use Rattle.nodesets.specs.Nodes.{ranks, CellRoom, MarkSet, found, FromOne, FromAll, rows_of};
 
-use cells::{Held, Item, Rank};
+use cells::{Item, Rank};
 
 // The cell of an iteration, as a table's first column has it. It is never taken for a rank.
 #[derive(Clone, Copy)]
 pub struct Iteration(pub i64);
 
-// The rank of a cell's node.
-#[derive(Clone, Copy)]
-pub enum Ranked {
-    At(Rank),
-    NotANode,
-}
-
-// Whether every cell was a node's.
-#[derive(Clone, Copy)]
-pub enum Marked {
-    AllNodes,
-    NotANode,
-}
+// What stops marking: a cell that is not a node's.
+#[derive(Clone, Copy, PartialEq, Eq)]
+pub struct NotANode;
 
 // The rank of an item of a catalogue with that many rows.
-fn rank_in(item: Item, rows: usize) -> Ranked
-    ensures { (c : Catalogue) → c.rows ≡ rows → found result ≡ World.rank_in c (Holding.Item item) }
+fn rank_in(item: Item, rows: usize) -> Option<Rank>
+    ensures { (c : Catalogue) → c.rows ≡ rows → found result ≡ World.rank_in c (Some item) }
 {
     match item {
-        Item::Node(rank) => if rank.0 < rows {
-            Ranked::At(rank)
-        } else {
-            Ranked::NotANode
-        },
-        Item::Integer(_) => Ranked::NotANode,
-        Item::Truth(_) => Ranked::NotANode,
+        Item::Node(rank) => if rank.0 < rows { Some(rank) } else { None },
+        Item::Integer(_) | Item::Truth(_) => None,
     }
 }
 
 // The rank of the node that a cell holds.
-pub fn rank_of(cell: i64, rows: usize) -> Ranked
+pub fn rank_of(cell: i64, rows: usize) -> Option<Rank>
     ensures { (c : Catalogue) → c.rows ≡ rows → found result ≡ World.rank_of c cell }
 {
-    match cells::item_of(cell) {
-        Held::Item(item) => rank_in(item, rows),
-        Held::Stray => Ranked::NotANode,
-    }
+    rank_in(cells::item_of(cell)?, rows)
 }
 
 // Takes every mark away.
@@ -59,43 +40,29 @@ pub fn clear(rows: usize, marks: &mut [bool])
     requires { rows ≤ length marks.old }
     ensures { MarkSet rows [] marks.new }
 {
-    let mut v: usize = 0;
-    while v < rows {
-        marks[v] = false;
-        v += 1;
-    }
+    marks[..rows].fill(false);
 }
 
 // Marks the node that a cell holds.
-pub fn mark_one(cell: i64, rows: usize, marks: &mut [bool]) -> Marked
+pub fn mark_one(cell: i64, rows: usize, marks: &mut [bool]) -> Result<(), NotANode>
     requires { rows ≤ length marks.old }
     ensures { (c : Catalogue) → c.rows ≡ rows → FromOne c cell result marks.old marks.new }
 {
-    match rank_of(cell, rows) {
-        Ranked::At(rank) => {
-            let v = rank.0;
-            marks[v] = true;
-            Marked::AllNodes
-        }
-        Ranked::NotANode => Marked::NotANode,
-    }
+    let rank = rank_of(cell, rows).ok_or(NotANode)?;
+    marks[rank.0] = true;
+    Ok(())
 }
 
 // Marks the nodes of a list of cells, and no other.
-pub fn mark(cells: &[i64], rows: usize, marks: &mut [bool]) -> Marked
+pub fn mark(cells: &[i64], rows: usize, marks: &mut [bool]) -> Result<(), NotANode>
     requires { rows ≤ length marks.old }
     ensures { (c : Catalogue) → c.rows ≡ rows → FromAll c cells.now result marks.new }
 {
     clear(rows, marks);
-    let mut i: usize = 0;
-    while i < cells.len() {
-        let one = mark_one(cells[i], rows, marks);
-        let Marked::AllNodes = one else {
-            return Marked::NotANode;
-        };
-        i += 1;
+    for cell in cells {
+        mark_one(*cell, rows, marks)?;
     }
-    Marked::AllNodes
+    Ok(())
 }
 
 // How many ranks are marked.
@@ -103,13 +70,7 @@ pub fn count(marks: &[bool], rows: usize) -> usize
     requires { rows ≤ length marks.now }
     ensures { result ≡ length (ranks rows marks.now) }
 {
-    let mut n: usize = 0;
-    let mut v: usize = 0;
-    while v < rows {
-        n += marks[v] as usize;
-        v += 1;
-    }
-    n
+    marks[..rows].iter().filter(|marked| **marked).count()
 }
 
 // Writes the cells of the marked nodes, by rising rank, from a place on. Answers how many they are.
@@ -119,13 +80,11 @@ pub fn write(marks: &[bool], rows: usize, work: &mut [i64], at: usize) -> usize
         × (work.new ≡ laid work.old at (map node_cell (ranks rows marks.now))) }
 {
     let mut n: usize = 0;
-    let mut v: usize = 0;
-    while v < rows {
+    for v in 0..rows {
         if marks[v] {
             work[at + n] = cells::node_cell(Rank(v));
             n += 1;
         }
-        v += 1;
     }
     n
 }
@@ -145,14 +104,12 @@ pub fn write_rows(
 {
     let cell = iteration.0;
     let mut n: usize = 0;
-    let mut v: usize = 0;
-    while v < rows {
+    for v in 0..rows {
         if marks[v] {
             work[at + 2 * n] = cell;
             work[at + 2 * n + 1] = cells::node_cell(Rank(v));
             n += 1;
         }
-        v += 1;
     }
     n
 }

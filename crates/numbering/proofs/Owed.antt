@@ -3,6 +3,7 @@
 --     owed_full      the rows with one cell more pass the room
 --     owed_laid      the rows laid in the order of the sorted numbers, each with its counter
 --     low, product, few      sizes that follow from the room
+use Rattle.std.specs.Prelude.{Ok, Err}
 use Prim.Native.Nat.{ℕ, zero, suc, ◌+◌, ◌-◌, ◌*◌, ◌≤◌, ◌<◌}
 use mathlib.Core.Path.{◌≡◌, refl, sym, ap, ◌∙◌}
 use mathlib.Core.List.{List, [], ◌∷◌, map}
@@ -20,7 +21,7 @@ use Rattle.laws.specs.Lists.{All}
 use Rattle.laws.specs.Attempt.{gives}
 use Rattle.meaning.specs.Operators.{Row, Table, rising, numbered_after, in_group, number}
 use Rattle.tables.specs.declared.Stand.{Stand}
-use Rattle.tables.specs.declared.Laid.TheVariants.{Rows, Full}
+use Rattle.tables.specs.declared.Unlaid.TheVariants.{Full}
 use Rattle.tables.specs.Layout.{table_at, Inside, Owes}
 use Rattle.tables.proofs.Promise.{none_laid}
 use Rattle.row_order.specs.declared.Keys.{Keys}
@@ -80,11 +81,11 @@ module _ (xs : List ℤ) (s : Stand) (p : ℕ) (keys : Keys) (room at : ℕ) whe
       ∙ length_sort (rising (order_of p keys)) (table_at xs s)
       ∙ length_rows_at xs s.at s.rows s.width
 
-  pub owed_none : s.rows ≡ 0 → at ≤ room → Owes room at (s.width + 1) (gives result) xs xs (Rows 0)
+  pub owed_none : s.rows ≡ 0 → at ≤ room → Owes room at (s.width + 1) (gives result) xs xs (Ok 0)
   unfolding number table_at rows_at sort numbered_after
   owed_none e h = rw e (none_laid room at (s.width + 1) xs h)
 
-  pub owed_full : room < at + s.rows * (s.width + 1) → Owes room at (s.width + 1) (gives result) xs xs Full
+  pub owed_full : room < at + s.rows * (s.width + 1) → Owes room at (s.width + 1) (gives result) xs xs (Err Full)
   unfolding Owes
   owed_full h = record { table = result; made_is = refl; past = rw length_number h; long = refl }
 
@@ -93,7 +94,7 @@ module _ (xs : List ℤ) (s : Stand) (p : ℕ) (keys : Keys) (room at : ℕ) whe
       KeyColumns s.width p keys → (ns : List ℕ) (ys : List ℤ) → s.at + s.rows * s.width ≤ length xs →
       at + s.rows * (s.width + 1) ≤ room → ns ≡ sort (stands_before xs s (order_of p keys)) (below s.rows) →
       ys ≡ laid xs at (flat (numbered_rows xs s p ns)) →
-      Owes room at (s.width + 1) (gives result) xs ys (Rows s.rows)
+      Owes room at (s.width + 1) (gives result) xs ys (Ok s.rows)
   unfolding Owes
   owed_laid suits ns ys inside fit sorted e =
       let is : result ≡ numbered_rows xs s p ns = numbered_rows_lem xs s p keys suits ns sorted in

@@ -47,7 +47,8 @@ rows_at_snoc xs a zero w = rw (zero-mul w, add-zero a)
 rows_at_snoc xs a (suc n) w =
     let e : suc n * w ≡ n * w + w = suc-mul n w in
     let d : a + w + n * w ≡ a + suc n * w = omega arith in
-    ap (λ t. row xs a w ∷ t) (rows_at_snoc xs (a + w) n w ∙ ap (λ (m : ℕ). rows_at xs (a + w) n w ++ (row xs m w ∷ [])) d)
+    ap (λ t. row xs a w ∷ t)
+    (rows_at_snoc xs (a + w) n w ∙ ap (λ (m : ℕ). rows_at xs (a + w) n w ++ (row xs m w ∷ [])) d)
 
 rows_below : (xs : List ℤ) (a n w : ℕ) → rows_at xs a n w ≡ map (λ (i : ℕ). row xs (a + i * w) w) (below n)
 unfolding rows_at below

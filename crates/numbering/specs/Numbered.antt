@@ -5,7 +5,8 @@
 --     numbered_rows xs s p ns    the rows of the table s in the order of the numbers ns, counted within equal p
 --     Layable xs s p ns at      what laying them at `at` asks: the table stands below, there is room for its rows with
 --                               one cell more, and ns begins with the numbers of rows
-use Rattle.std.specs.Prelude.{ℕ, ◌+◌, ◌*◌, ◌≤◌, ◌<◌, ◌≡◌, List, [], ◌∷◌, ◌++◌, map, Bool, false, cond, eqb, ℤ, pos, length, get_or}
+use Rattle.std.specs.Prelude.{ℕ, ◌+◌, ◌*◌, ◌≤◌, ◌<◌, ◌≡◌, List, [], ◌∷◌, ◌++◌, map, Bool, false, cond}
+use Rattle.std.specs.Prelude.{eqb, ℤ, pos, length, get_or}
 use Rattle.laws.specs.Rows.{row}
 use Rattle.meaning.specs.Operators.{Row, Table, in_group}
 use Rattle.tables.specs.declared.Stand.{Stand}

@@ -6,18 +6,14 @@ ghost use Rattle.row_order.specs.Order.{from, Low};
 ghost use Rattle.numbering.specs.Numbered.{counter_of, numbered_rows, Layable};
 
 use row_order::{start, tied};
-use tables::Stand;
+use tables::{Stand, copy};
 
 // The row of width w at cell a, and its counter, laid at `to`.
 fn lay_row(work: &mut [i64], a: usize, w: usize, c: usize, to: usize)
     requires { (a + w ≤ to) × (to + w < length work.old) × (c ≤ 65536) }
     ensures { work.new ≡ laid work.old to (row work.old a w ++ (pos c ∷ [])) }
 {
-    let mut i: usize = 0;
-    while i < w {
-        work[to + i] = work[a + i];
-        i += 1;
-    }
+    copy(work, a, w, to);
     work[to + w] = c as i64;
 }
 
@@ -26,11 +22,7 @@ fn in_group(work: &[i64], s: Stand, p: usize, i: u16, j: u16) -> bool
     requires { Low s }
     ensures { result ≡ in_group p (from work.now s i) (from work.now s j) }
 {
-    if p == 255 {
-        true
-    } else {
-        tied(work, start(s, i), start(s, j), p)
-    }
+    p == 255 || tied(work, start(s, i), start(s, j), p)
 }
 
 // The counter of row i, where row j stands in front of it and has the counter c.
@@ -52,13 +44,11 @@ pub fn lay(work: &mut [i64], s: Stand, p: usize, order: &[u16], at: usize)
     let mut to = at;
     let mut c: usize = 0;
     let mut last: u16 = 0;
-    let mut i: usize = 0;
-    while i < n {
+    for i in 0..n {
         let k = order[i];
         c = counter(work, s, p, k, last, c);
         lay_row(work, start(s, k), w, c, to);
         to += w + 1;
         last = k;
-        i += 1;
     }
 }

@@ -10,7 +10,7 @@ ghost use Rattle.tables.specs.Layout.{table_at, Inside, Owes};
 ghost use Rattle.row_order.specs.Order.{columns_of, KeyColumns};
 
 use row_order::Keys;
-use tables::{Laid, Stand};
+use tables::{Laid, Stand, Unlaid};
 
 // RN of the table, laid at `at`. It never fails. Room is tested before anything is sorted: at most 32,768 rows are.
 // `order` and `aside` are lent to work in: what they hold does not matter.
@@ -33,12 +33,12 @@ pub fn number(
 {
     let n = s.rows;
     if n == 0 {
-        return Laid::Rows(0);
+        return Ok(0);
     }
     if room - at < n * (s.width + 1) {
-        return Laid::Full;
+        return Err(Unlaid::Full);
     }
     sorting::arrange(work, s, p, keys, order, aside);
     laying::lay(work, s, p, order, at);
-    Laid::Rows(n)
+    Ok(n)
 }

@@ -27,7 +27,7 @@ use Rattle.pen.specs.Decimal.{digits, decimal, signed}
 use Rattle.laws.specs.Characters.{is_digit, AllDigits}
 use Rattle.pen.specs.Amounts.{Lead, digit_of, amount_from, amount}
 use Rattle.pen.proofs.Digits.{digits_short}
-use Rattle.pen.proofs.Amounts.{amount_append, amount_digits, digits_small, digits_large, tenth_below, all_digits}
+use Rattle.pen.proofs.Amounts.{amount_append, amount_digits, digits_small, digits_large, all_digits}
 use Rattle.pen.proofs.Amounts.{lead_digits}
 use Rattle.numerals.specs.Numerals.{Plain, opens}
 

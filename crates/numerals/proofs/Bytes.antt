@@ -1,5 +1,4 @@
 -- Laws of digits, spaces, and the byte at an offset.
---     high_digit          a byte from 48 on is a digit up to 57
 --     space_few           a space is a byte
 --     looks_byte          the byte at an offset of the text
 --     looks_end           .. at its end
@@ -11,18 +10,14 @@ use mathlib.Core.List.{List, [], ◌∷◌}
 use mathlib.Core.Bool.{Bool, true, false, ◌||◌}
 use native.Mathlib.Omega.{arith}
 use native.Mathlib.Numerals.{add-one}
-use lib.Dec.{ltb, leb, eqb}
+use lib.Dec.{ltb, eqb}
 use lib.ListN.{length, drop, get_or, drop_of_length-le}
 use lib.Seq.{drop-cons}
-use borrow.Author.Tests.{le-leb, eqb-true, ltb-true, ltb-false}
+use borrow.Author.Tests.{eqb-true, ltb-true, ltb-false}
 use Rattle.laws.proofs.Booleans.{by_cases}
 use Rattle.laws.specs.Characters.{is_space, is_digit, first}
 use Rattle.numerals.specs.Numerals.{opens}
 use Rattle.numerals.specs.Texts.{Looks}
-
-pub high_digit : (b : ℕ) → 48 ≤ b → is_digit b ≡ leb b 57
-unfolding is_digit
-high_digit b h = rw (le-leb 48 b h)
 
 -- of four tests that are one true, some number is met
 met : (b : ℕ) (p q r s : Bool) → (p ≡ true → b < 256) → (q ≡ true → b < 256) → (r ≡ true → b < 256)

@@ -9,7 +9,7 @@
 --     after_local, after_halts     nothing behind the word, or behind the byte where reading is stuck, is looked at
 --     place_left           a place is told by how much is left there
 --     numeral_told, canonical_told     a number that the code read is at most the bound, and ends behind its start
-use Prim.Native.Nat.{ℕ, ◌+◌, ◌-◌, ◌≤◌, ◌<◌}
+use Prim.Native.Nat.{ℕ, ◌-◌, ◌≤◌, ◌<◌}
 use mathlib.Core.Path.{◌≡◌, refl, sym, ap, subst, ◌∙◌}
 use mathlib.Core.List.{List, [], ◌∷◌, ◌++◌, append_cancel_right, head-eq_of_cons-eq, nil≢cons}
 use mathlib.Core.Bool.{false}
@@ -22,7 +22,7 @@ use Rattle.numerals.specs.Numerals.{Res, is, stuck, numeral, canonical}
 use Rattle.laws.specs.Characters.{is_space, Spaces}
 use Rattle.numerals.specs.Texts.{drop_spaces, after, Differs}
 use Rattle.numerals.specs.Answers.{told_numeral}
-use Rattle.numerals.specs.declared.Numeral.TheVariants.{Is}
+use Rattle.std.specs.Prelude.{Ok}
 use Rattle.numerals.proofs.Splitting.{numeral_is, numeral_shorter, canonical_is, canonical_shorter}
 
 pub spaces_passed : (s t : List ℕ) → Spaces s → drop_spaces (s ++ t) ≡ drop_spaces t
@@ -132,14 +132,16 @@ further : (text : List ℕ) (at p : ℕ) → length (drop p text) < length (drop
 further text at p h = omega (arith, length-drop at text, length-drop p text)
 
 module _ (text : List ℕ) (at most v next : ℕ) where
-  pub numeral_told : told_numeral text (Is v next) ≡ numeral most (drop at text) → (v ≤ most) × (at < next)
+  pub numeral_told : told_numeral text (Ok (record { what = v; next = next })) ≡ numeral most (drop at text)
+      → (v ≤ most) × (at < next)
   unfolding told_numeral
   numeral_told e = (
     (numeral_is most v (drop at text) (drop next text) (sym e)).1.held,
     further text at next (numeral_shorter most v (drop at text) (drop next text) (sym e)),
   )
 
-  pub canonical_told : told_numeral text (Is v next) ≡ canonical most (drop at text) → (v ≤ most) × (at < next)
+  pub canonical_told : told_numeral text (Ok (record { what = v; next = next })) ≡ canonical most (drop at text)
+      → (v ≤ most) × (at < next)
   unfolding told_numeral
   canonical_told e = (
     (canonical_is most v (drop at text) (drop next text) (sym e)).0.held,

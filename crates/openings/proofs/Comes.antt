@@ -1,67 +1,91 @@
 -- How an operand begins, by the byte that comes.
---     opens_whole, opens_list, opens_call     what each answer says
+--     whole_read               an operand that is read whole
+--     opens_whole, opens_none, opens_list, opens_call     what each answer says
+--     opens_up                 what the exit of a `?` hands up
 --     opens_by, opens_left     the same answer of an equal definition; of what is left
 --     call_at                  a call, up to its parenthesis and behind it
 --     group_rest                behind ( and spaces
 --     group_at, group_empty, group_none, group_list     .. by the byte that comes
 --     digit_seen               a digit that was looked at
 --     digit_on, primary_other  an operand that begins with a digit; with none of its bytes
-use Prim.Native.Nat.{ℕ, zero, suc, ◌-◌, ◌≤◌}
+use Prim.Native.Nat.{ℕ, zero, suc, ◌-◌}
 use mathlib.Core.Path.{◌≡◌, refl, sym, ◌∙◌, ap}
-use mathlib.Core.List.{List, [], ◌∷◌, ◌++◌}
+use mathlib.Core.List.{List, ◌∷◌, ◌++◌}
 use mathlib.Core.Bool.{Bool, true, false}
 use native.Mathlib.Omega.{arith}
 use lib.Dec.{eqb}
-use lib.ListN.{length, drop}
+use lib.ListN.{drop}
 use borrow.Author.Tests.{ne_eqb}
+use Rattle.std.specs.Prelude.{Result, Ok, Err}
+use Rattle.std.specs.Result.{IsErrAnd}
+use Rattle.numerals.specs.declared.Stuck.{Stuck}
+use Rattle.spelling.specs.declared.Before.{Before}
 use Rattle.numerals.specs.Texts as texts
 use Rattle.grammar.specs.Words.{symbol, word, open_sign}
 use Rattle.grammar.specs.Records.{record_qe}
 use Rattle.laws.specs.Characters.{first, is_digit}
 use Rattle.parsing.specs.declared.Ends.TheVariants.{WithList, WithCall}
-use Rattle.parsing.specs.Reader.{Res, ok, stuck, Reader, then, rest, byte, letters, read_word, Readers, Operand, operand}
+use Rattle.parsing.specs.Reader.{Res, ok, stuck, Reader, then, rest, byte, letters, read_word}
+use Rattle.parsing.specs.Reader.{Readers, Operand, operand}
 use Rattle.parsing.specs.Reader.{read_call, read_deeper, read_group, read_primary}
 use Rattle.spelling.proofs.Bridging.{looks_first}
-use Rattle.spelling.proofs.Answering.{entry_symbol, spaces_skip}
-use Rattle.operands.specs.declared.OperandRead.{OperandRead}
-use Rattle.operands.specs.Going.{ReadsOperand}
+use Rattle.spelling.proofs.Answering.{entry_symbol, spaces_skip, handed_up}
+use Rattle.operands.specs.declared.Part.{Part}
+use Rattle.operands.specs.Going.{Halts, ReadsOperand}
 use Rattle.operands.specs.Single.{number_operand}
-use Rattle.operands.proofs.Follows.{operand_by}
+use Rattle.operands.proofs.Follows.{part_by, part_stuck}
 use Rattle.openings.specs.declared.Opening.{Opening}
 use Rattle.openings.specs.declared.Opening.TheVariants as opening
 use Rattle.openings.specs.Opened.{opened_word, called_part, ListComes, CallComes, OpeningIs, Opens}
 
+-- an operand that is read whole
+abbrev pub whole_read : Result (Part Before) Stuck → Result Opening Stuck
+whole_read (Ok p) = Ok (opening.Whole p)
+whole_read (Err s) = Err s
+
 module _ {text before after : List ℕ} {made : ℕ} (rd : Readers) (d : ℕ) {def : Res Operand} where
-  pub opens_whole : {r : OperandRead} → ReadsOperand text before after made def r
-      → Opens text before after made rd d def (opening.Whole r)
+  pub opens_whole : (r : Result (Part Before) Stuck) → ReadsOperand text before after made def r
+      → Opens text before after made rd d def (whole_read r)
   unfolding OpeningIs
-  opens_whole h = record { opens = h }
+  opens_whole (Ok p) h = record { opens = h }
+  opens_whole (Err s) h = record { opens = h }
+
+  pub opens_none : {k : Stuck} → Halts text def k.0 → Opens text before after made rd d def (Err k)
+  unfolding OpeningIs
+  opens_none h = record { opens = part_stuck _ h }
+
+  -- what the exit of a `?` hands up
+  pub opens_up : {k : Stuck} (r : Result Opening Stuck) → IsErrAnd r (λ (y : Stuck). y ≡ k) → Halts text def k.0
+      → Opens text before after made rd d def r
+  opens_up r h s = rw (handed_up r h) (opens_none s)
 
   pub opens_list : {from parens : ℕ} → ListComes text before after rd def from parens
-      → Opens text before after made rd d def (opening.List from parens)
+      → Opens text before after made rd d def (Ok (opening.List from parens))
   unfolding OpeningIs
   opens_list h = record { opens = h }
 
   pub opens_call : {from to : ℕ} → CallComes text before after made rd d def from to
-      → Opens text before after made rd d def (opening.Call from to)
+      → Opens text before after made rd d def (Ok (opening.Call from to))
   unfolding OpeningIs
   opens_call h = record { opens = h }
 
-pub opens_by : {text before after : List ℕ} {made : ℕ} {rd : Readers} {d : ℕ} {def other : Res Operand} (r : Opening)
+pub opens_by : {text before after : List ℕ} {made : ℕ} {rd : Readers} {d : ℕ} {def other : Res Operand}
+    (r : Result Opening Stuck)
     → other ≡ def
     → Opens text before after made rd d def r
     → Opens text before after made rd d other r
 unfolding OpeningIs
-opens_by (opening.Whole r) e h = record { opens = operand_by r e h.opens }
-opens_by (opening.List from parens) e h =
+opens_by (Ok (opening.Whole p)) e h = record { opens = part_by (Ok p) e h.opens }
+opens_by (Ok (opening.List from parens)) e h =
     let k = h.opens in
     record { opens = record { means = e ∙ k.means; inside = k.inside; same = k.same } }
-opens_by (opening.Call from to) e h =
+opens_by (Ok (opening.Call from to)) e h =
     let k = h.opens in
     record { opens = record { mark = k.mark; means = e ∙ k.means; inside = k.inside; added = k.added } }
+opens_by (Err s) e h = record { opens = part_by (Err s) e h.opens }
 
-pub opens_left : {text before after : List ℕ} {made : ℕ} {rd : Readers} {d : ℕ} {def : Res Operand} (r : Opening)
-    (f : Reader Operand) {t u : List ℕ}
+pub opens_left : {text before after : List ℕ} {made : ℕ} {rd : Readers} {d : ℕ} {def : Res Operand}
+    (r : Result Opening Stuck) (f : Reader Operand) {t u : List ℕ}
     → t ≡ u
     → f u ≡ def
     → Opens text before after made rd d def r

@@ -6,11 +6,12 @@
 --     OpeningIs, Opens text before after made rd d def r
 --                            what r says of the definition: an operand that is read whole; or a list comes, in so many
 --                            parentheses less one; or the operand of a call, whose record is added
-use Rattle.std.specs.Prelude.{ℕ, ◌≤◌, ◌≡◌, List, ◌++◌, length, drop}
+use Rattle.std.specs.Prelude.{ℕ, ◌≤◌, ◌≡◌, List, ◌++◌, length, drop, Result, Ok, Err}
 use Rattle.grammar.specs.Words.{symbol, word, open_sign}
 use Rattle.grammar.specs.Records.{record_qc, record_qd}
 use Rattle.parsing.specs.declared.Ends.TheVariants.{WithList, WithCall}
 use Rattle.parsing.specs.Reader.{Res, Reader, then, letters, read_word, Readers, Operand, operand, read_call}
+use Rattle.numerals.specs.declared.Stuck.{Stuck}
 use Rattle.recording.specs.Recorded.{Adds}
 use Rattle.operands.specs.Going.{ReadsOperand}
 use Rattle.openings.specs.declared.Callee.{Callee}
@@ -45,11 +46,14 @@ pub record CallComes (text before after : List ℕ) (made : ℕ) (rd : Readers) 
   pub added : Adds mark made before after to
 
 unfoldable pub OpeningIs :
-    (text before after : List ℕ) (made : ℕ) (rd : Readers) (d : ℕ) → Res Operand → opening.Opening → Type 0
-OpeningIs text before after made rd d def (opening-is.Whole r) = ReadsOperand text before after made def r
-OpeningIs text before after made rd d def (opening-is.List from parens) = ListComes text before after rd def from parens
-OpeningIs text before after made rd d def (opening-is.Call from to) = CallComes text before after made rd d def from to
+    (text before after : List ℕ) (made : ℕ) (rd : Readers) (d : ℕ) → Res Operand → Result opening.Opening Stuck → Type 0
+OpeningIs text before after made rd d def (Ok (opening-is.Whole p)) = ReadsOperand text before after made def (Ok p)
+OpeningIs text before after made rd d def (Ok (opening-is.List from parens)) =
+    ListComes text before after rd def from parens
+OpeningIs text before after made rd d def (Ok (opening-is.Call from to)) =
+    CallComes text before after made rd d def from to
+OpeningIs text before after made rd d def (Err s) = ReadsOperand text before after made def (Err s)
 
 pub record Opens (text before after : List ℕ) (made : ℕ) (rd : Readers) (d : ℕ) (def : Res Operand)
-    (r : opening.Opening) : Type 0 where
+    (r : Result opening.Opening Stuck) : Type 0 where
   pub opens : OpeningIs text before after made rd d def r

@@ -8,19 +8,22 @@ ghost use Rattle.spelling.specs.Answers;
 ghost use Rattle.recording.specs.Recorded.{most_bytes, Adds};
 ghost use Rattle.openings.specs.Opened;
 
-use numerals::{Fixed, byte, is_digit, spaces, word};
-use operands::OperandRead;
+use numerals::{Fixed, Stuck, byte, is_digit, spaces, word};
+use operands::Part;
 use recording::{add_count, add_data, add_empty};
 use spelling::{Before, fixed};
 
-// How an operand begins: it is read whole; or a list comes, at an offset and with so many parentheses left inside; or
-// the operand of a call, at an offset and with so many record bytes then.
+// How an operand begins: it is read whole; or a list comes, with so many parentheses left inside; or the operand of a
+// call, with so many record bytes then.
 #[derive(Clone, Copy)]
 pub enum Opening {
-    Whole(OperandRead),
-    List(usize, usize),
-    Call(usize, usize),
+    Whole(Part<Before>),
+    List { from: usize, parens: usize },
+    Call { from: usize, made: usize },
 }
+
+// How an operand begins; or the place where no text of the grammar goes on.
+pub type OpeningRead = Result<Opening, Stuck>;
 
 // The rest of a word of letters, and the parenthesis behind it.
 pub fn opened(text: &[u8], at: usize, rest: &[u8]) -> Fixed
@@ -28,10 +31,8 @@ pub fn opened(text: &[u8], at: usize, rest: &[u8]) -> Fixed
     ensures { Answers.ReadsFixed text.now result
         (Opened.opened_word rest.now (drop at text.now)) }
 {
-    match word(text, at, rest) {
-        Fixed::Past(next) => fixed(text, next, Before::Word, b"("),
-        Fixed::Stuck(place) => Fixed::Stuck(place),
-    }
+    let next = word(text, at, rest)?;
+    fixed(text, next, Before::Word, b"(")
 }
 
 // What is called: `count` or `data`.
@@ -60,58 +61,62 @@ fn call(
     made: usize,
     rest: &[u8],
     callee: Callee,
-) -> Opening
+) -> OpeningRead
     requires { (at ≤ length text.now) × (length query.old ≡ most_bytes) × (made ≤ most_bytes) }
     ensures { (rd : Reader.Readers) → (d : ℕ) → Opened.Opens text.now query.old
         query.new made rd d
         (Opened.called_part rd d rest.now (Opened.call_record callee) (drop at text.now)) result }
 {
-    match opened(text, at, rest) {
-        Fixed::Past(from) => {
-            let to = add_call(query, made, callee);
-            Opening::Call(from, to)
-        }
-        Fixed::Stuck(place) => Opening::Whole(OperandRead::Stuck(place)),
-    }
+    let from = opened(text, at, rest)?;
+    let to = add_call(query, made, callee);
+    Ok(Opening::Call { from, made: to })
 }
 
 // Behind `(`: the empty sequence, or a list while parentheses are left.
-fn group(text: &[u8], query: &mut [u8], at: usize, made: usize, parens: usize) -> Opening
+fn group(text: &[u8], query: &mut [u8], at: usize, made: usize, parens: usize) -> OpeningRead
     requires { (at ≤ length text.now) × (length query.old ≡ most_bytes) × (made ≤ most_bytes) }
     ensures { (rd : Reader.Readers) → Opened.Opens text.now query.old
         query.new made rd parens (Reader.read_group rd parens (drop at text.now)) result }
 {
     let from = spaces(text, at);
     let b = byte(text, from);
-    if b == b')' as usize {
+    if b == usize::from(b')') {
         let to = add_empty(query, made);
-        return Opening::Whole(OperandRead::Past(Before::Symbol, from + 1, to));
+        return Ok(Opening::Whole(Part {
+            behind: Before::Symbol,
+            next: from + 1,
+            made: to,
+        }));
     }
-    if parens == 0 {
-        return Opening::Whole(OperandRead::Stuck(from));
+    let none = parens == 0;
+    if none {
+        return Err(Stuck(from));
     }
-    Opening::List(from, parens - 1)
+    Ok(Opening::List {
+        from,
+        parens: parens - 1,
+    })
 }
 
 // An operand, past the spaces.
-pub fn primary(text: &[u8], query: &mut [u8], at: usize, made: usize, parens: usize) -> Opening
+pub fn primary(text: &[u8], query: &mut [u8], at: usize, made: usize, parens: usize) -> OpeningRead
     requires { (at ≤ length text.now) × (length query.old ≡ most_bytes) × (made ≤ most_bytes) }
     ensures { (rd : Reader.Readers) → Opened.Opens text.now query.old
         query.new made rd parens (Reader.read_primary rd parens (drop at text.now)) result }
 {
     let b = byte(text, at);
     if is_digit(b) {
-        return Opening::Whole(operands::number(text, query, at, made, 2147483647, false));
+        return operands::number(text, query, at, made, 2147483647, false).map(Opening::Whole);
     }
     match b {
-        45 => Opening::Whole(operands::number(text, query, at + 1, made, 2147483648, true)), // b'-'
-        36 => Opening::Whole(operands::variable(text, query, at + 1, made)), // b'$'
-        116 => Opening::Whole(operands::truth(text, query, at + 1, made, b"rue", true)), // b't'
-        102 => Opening::Whole(operands::truth(text, query, at + 1, made, b"alse", false)), // b'f'
+        45 => operands::number(text, query, at + 1, made, 2147483648, true).map(Opening::Whole), // b'-'
+        36 => operands::variable(text, query, at + 1, made).map(Opening::Whole), // b'$'
+        116 => operands::truth(text, query, at + 1, made, b"rue", true).map(Opening::Whole), // b't'
+        102 => operands::truth(text, query, at + 1, made, b"alse", false).map(Opening::Whole), // b'f'
         40 => group(text, query, at + 1, made, parens), // b'('
-        114 => Opening::Whole(operands::root(text, query, at + 1, made)), // b'r'
+        114 => operands::root(text, query, at + 1, made).map(Opening::Whole), // b'r'
         99 => call(text, query, at + 1, made, b"ount", Callee::Count), // b'c'
         100 => call(text, query, at + 1, made, b"ata", Callee::Data), // b'd'
-        _ => Opening::Whole(OperandRead::Stuck(at)),
+        _ => Err(Stuck(at)),
     }
 }

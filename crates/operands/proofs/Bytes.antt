@@ -4,16 +4,16 @@
 use Prim.Native.Nat.{ℕ, ◌-◌, ◌≤◌, ◌<◌}
 use mathlib.Core.Path.{◌≡◌, sym, ◌∙◌, ap}
 use mathlib.Core.List.{List, []}
-use mathlib.Core.Bool.{Bool, true, false}
 use native.Mathlib.Omega.{arith}
 use lib.Dec.{leb}
-use lib.ListN.{length, drop}
+use lib.ListN.{drop}
 use borrow.Author.Tests.{leb-true}
 use Rattle.laws.proofs.Booleans.{by_cases, both_true}
 use Rattle.numerals.specs.Numerals as numerals
 use Rattle.numerals.specs.Answers as answers
-use Rattle.numerals.specs.declared.Numeral.{Numeral}
-use Rattle.numerals.specs.declared.Numeral.TheVariants as numeral
+use Rattle.std.specs.Prelude.{Result, Ok}
+use Rattle.numerals.specs.declared.Read.{Read}
+use Rattle.numerals.specs.declared.Stuck.{Stuck}
 use Rattle.numerals.proofs.Splitting.{numeral_is}
 use Rattle.laws.specs.Characters.{first}
 use Rattle.parsing.specs.Reader.{Res, ok, stuck, skip, rest, is_variable, read_variable}
@@ -25,16 +25,16 @@ pub inserts_none : (start made : ℕ) (bytes : List ℕ) → made ≤ most_bytes
 inserts_none start made bytes h =
     record { grows = omega arith; within = h; inserts = λ xs ys e held. held }
 
-pub numeral_few : (text : List ℕ) (at most n p : ℕ) (r : Numeral)
+pub numeral_few : (text : List ℕ) (at most : ℕ) (n : Read ℕ) (r : Result (Read ℕ) Stuck)
     → (answers.told_numeral text r ≡ numerals.numeral most (drop at text))
-    × answers.From text at (answers.numeral_place r)
-    → r ≡ numeral.Is n p
-    → n ≤ most
+    × answers.From text at (answers.read_place r)
+    → r ≡ Ok n
+    → n.what ≤ most
 unfolding answers.told_numeral
-numeral_few text at most n p r h e =
-    let told : numerals.numeral most (drop at text) ≡ numerals.is n (drop p text) =
+numeral_few text at most n r h e =
+    let told : numerals.numeral most (drop at text) ≡ numerals.is n.what (drop n.next text) =
     sym h.0 ∙ ap (answers.told_numeral text) e in
-    (numeral_is most n (drop at text) (drop p text) told).1.held
+    (numeral_is most n.what (drop at text) (drop n.next text) told).1.held
 
 pub variable_few : (t u : List ℕ) (v : ℕ) → read_variable t ≡ ok v u → v < 8
 unfolding is_variable

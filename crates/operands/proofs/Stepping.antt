@@ -7,11 +7,10 @@
 --     steps_zero, steps_suc   those readers
 --     run_start, run_ends, run_stuck, run_more     the loop over a chain
 use Prim.Native.Nat.{ℕ, zero, suc, ◌-◌, ◌≤◌}
-use mathlib.Core.Path.{◌≡◌, refl, sym, ◌∙◌, ap}
+use mathlib.Core.Path.{◌≡◌, refl, sym, ◌∙◌}
 use mathlib.Core.List.{List, ◌++◌}
-use mathlib.Core.Bool.{Bool, true, false}
+use mathlib.Core.Bool.{Bool}
 use native.Mathlib.Omega.{arith}
-use lib.Dec.{eqb}
 use lib.ListN.{length, drop}
 use borrow.Author.Tests.{ne_eqb, eq-eqb}
 use Rattle.codes.specs.declared.Axis.{Axis}
@@ -20,13 +19,15 @@ use Rattle.grammar.specs.Words.{Kind, symbol, word, close_sign}
 use Rattle.grammar.specs.Records.{record_qr, record_qx}
 use Rattle.parsing.specs.declared.Ends.{Ends}
 use Rattle.parsing.specs.declared.Next.{Next}
-use Rattle.parsing.specs.Reader.{Res, ok, stuck, Reader, then, Step, Went, went, operand, read_word, read_step, read_next}
+use Rattle.parsing.specs.declared.Step.{Step}
+use Rattle.parsing.specs.Reader.{Res, ok, stuck, Reader, then, Went, went, operand, read_word, read_step, read_next}
 use Rattle.parsing.specs.Reader.{test_kind, tightness, Readers, readers, more_steps}
-use Rattle.spelling.specs.declared.NextRead.{NextRead}
-use Rattle.spelling.specs.Answers.{Reads, ReadsNext}
+use Rattle.std.specs.Prelude.{Result, Ok, Err}
+use Rattle.numerals.specs.declared.Read.{Read}
+use Rattle.numerals.specs.declared.Stuck.{Stuck}
+use Rattle.spelling.specs.Answers.{Reads, ReadsValue}
 use Rattle.recording.specs.Recorded.{most_bytes, Inserts}
-use Rattle.operands.specs.declared.PartRead.{PartRead}
-use Rattle.operands.specs.declared.PartRead.TheVariants as part
+use Rattle.operands.specs.declared.Part.{Part}
 use Rattle.operands.specs.Going.{Goes, Halts, PartGoes, Putting, part_value, counted_read}
 use Rattle.operands.specs.Single.{root_close, one_step}
 use Rattle.operands.proofs.Follows.{part_by, past_then, counted_part, part_read, part_stuck, halts_by}
@@ -39,18 +40,18 @@ pub root_on : (k : ℕ) (t : List ℕ) → (k ≡ 0 → ⊥)
 root_on k t h = rw (ne_eqb k 0 h)
 
 pub step_follows : (text before after : List ℕ) (start made to at p : ℕ) (e : Ends) (c : Bool) (k : Kind) (x : Axis)
-    (t : Test) (ys : List ℕ) (next : NextRead) (r : PartRead)
-    → Reads text (read_step (drop at text)) (ok (record { along = x; passing = t }) (drop p text)) p
+    (t : Test) (ys : List ℕ) (next : Result (Read Next) Stuck) (r : Result (Part Next) Stuck)
+    → Reads text (read_step (drop at text)) (ok (record { axis = x; test = t }) (drop p text)) p
     → Inserts (record_qx x t) start made before after to
     → k ≡ test_kind t
-    → ReadsNext text next (read_next e c k (drop p text))
+    → ReadsValue text next (read_next e c k (drop p text))
     → r ≡ counted_read next to
-    → PartGoes text made (one_step e c ys (drop at text)) (Putting before after start made ys) r
+    → PartGoes part_value text made (one_step e c ys (drop at text)) (Putting before after start made ys) r
 step_follows text before after start made to at p e c k x t ys next r s i same n told =
     let f : Step → Reader Went =
     λ s u.
-    then (read_next e c (test_kind s.passing) u) (λ m. went (record_qx s.along s.passing ++ ys) m) in
-    let reads : ReadsNext text next (read_next e c (test_kind t) (drop p text)) = rw (sym same) n in
+    then (read_next e c (test_kind s.test) u) (λ m. went (record_qx s.axis s.test ++ ys) m) in
+    let reads : ReadsValue text next (read_next e c (test_kind t) (drop p text)) = rw (sym same) n in
     rw told
     (part_by (counted_read next to) (past_then f s)
     (counted_part (Putting before after start made ys) (record_qx x t ++ ys) next reads i.grows i.within
@@ -74,16 +75,16 @@ module _ (rd : Readers) (e : Ends) (c : Bool) (xs : List ℕ) (n : Next) (t : Li
   step_by : (m : Res Step)
       → then m
       (λ s u.
-      then (read_next e c (test_kind s.passing) u)
-      (λ m. rd.steps e c (record_qx s.along s.passing ++ xs) m))
+      then (read_next e c (test_kind s.test) u)
+      (λ m. rd.steps e c (record_qx s.axis s.test ++ xs) m))
       ≡ then
       (then m
       (λ s u.
-      then (read_next e c (test_kind s.passing) u)
-      (λ m. went (record_qx s.along s.passing ++ xs) m)))
+      then (read_next e c (test_kind s.test) u)
+      (λ m. went (record_qx s.axis s.test ++ xs) m)))
       (λ w. rd.steps e c w.made w.next)
   step_by (ok s u) =
-      next_by (record_qx s.along s.passing ++ xs) (read_next e c (test_kind s.passing) u)
+      next_by (record_qx s.axis s.test ++ xs) (read_next e c (test_kind s.test) u)
   step_by (stuck u) = refl
 
   pub steps_on : tightness n ≡ 4
@@ -115,7 +116,8 @@ module _ {text before after : List ℕ} {start made to : ℕ} {ys : List ℕ} {d
       → at ≤ length text
       → made ≤ to
       → to ≤ most_bytes
-      → PartGoes text made def (Putting before after start made ys) (part.Past n at to)
+      → PartGoes part_value text made def (Putting before after start made ys)
+      (Ok (record { behind = n; next = at; made = to }))
   run_ends n f h l m =
       part_read (Putting before after start made ys)
       (record {
@@ -127,9 +129,9 @@ module _ {text before after : List ℕ} {start made to : ℕ} {ys : List ℕ} {d
         kept = run.put;
       })
 
-  pub run_stuck : (keeps : ℕ → List ℕ → Type 0) {p : ℕ} (r : PartRead) → r ≡ part.Stuck p
-      → ((zs : List ℕ) → Halts text (more zs) p)
-      → PartGoes text made def keeps r
+  pub run_stuck : (keeps : ℕ → List ℕ → Type 0) {k : Stuck} (r : Result (Part Next) Stuck) → r ≡ Err k
+      → ((zs : List ℕ) → Halts text (more zs) k.0)
+      → PartGoes part_value text made def keeps r
   run_stuck keeps r e f = rw e (part_stuck keeps (halts_by run.means (f run.bytes)))
 
   pub run_more : {last : List ℕ} {at next : ℕ} {n : Next} (one more' : List ℕ → Res Went)

@@ -6,23 +6,20 @@
 --     Adding                 the array holds the record bytes behind what it held
 --     Putting                .. in the place of the bytes ys, which were behind what it held
 --     operand_value, part_value     an operand, a part, by their record bytes
---     OperandIs, PartIs      an answer is how far the definition goes
---     OperandGoes, PartGoes  .. by name
+--     PartIs value ..        an answer is how far the definition goes, whose value is made of what stands behind
+--     PartGoes value ..      .. by name
 --     counted_read n to       the word behind a part, with how many record bytes there are
 --     ReadsOperand, ReadsPart     .. where the record bytes are added
 --     FollowsPart            .. where they are in the place of ys
-use Rattle.std.specs.Prelude.{ℕ, ◌≤◌, min, ◌≡◌, List, ◌++◌, length, drop}
+use Rattle.std.specs.Prelude.{ℕ, ◌≤◌, min, ◌≡◌, List, ◌++◌, length, drop, Result, Ok, Err}
+use Rattle.numerals.specs.declared.Read.{Read}
+use Rattle.numerals.specs.declared.Stuck.{Stuck}
 use Rattle.parsing.specs.declared.Next.{Next}
 use Rattle.parsing.specs.Reader.{Res, ok, stuck, Operand, Went}
 use Rattle.spelling.specs.declared.Before.{Before}
-use Rattle.spelling.specs.declared.NextRead as next
-use Rattle.spelling.specs.declared.NextRead.TheVariants as next-is
 use Rattle.spelling.specs.Answers.{kind_is}
 use Rattle.recording.specs.Recorded.{most_bytes, Recorded}
-use Rattle.operands.specs.declared.OperandRead as operand
-use Rattle.operands.specs.declared.OperandRead.TheVariants as operand-is
-use Rattle.operands.specs.declared.PartRead as part
-use Rattle.operands.specs.declared.PartRead.TheVariants as part_is
+use Rattle.operands.specs.declared.Part.{Part}
 
 pub record Goes {A : Type 0} (text : List ℕ) (made : ℕ) (def : Res A) (value : List ℕ → A) (keeps : List ℕ → Type 0)
     (at to : ℕ) : Type 0 where
@@ -51,32 +48,27 @@ operand_value k bs = record { made = bs; kind = kind_is k }
 abbrev pub part_value : Next → List ℕ → Went
 part_value n bs = record { made = bs; next = n }
 
-unfoldable pub OperandIs : List ℕ → ℕ → Res Operand → (ℕ → List ℕ → Type 0) → operand.OperandRead → Type 0
-OperandIs text made def keeps (operand-is.Past k at to) = Goes text made def (operand_value k) (keeps to) at to
-OperandIs text made def keeps (operand-is.Stuck p) = Halts text def p
+module _ {A B : Type 0} where
+  unfoldable pub PartIs : (A → List ℕ → B) → List ℕ → ℕ → Res B → (ℕ → List ℕ → Type 0) → Result (Part A) Stuck → Type 0
+  PartIs value text made def keeps (Ok p) = Goes text made def (value p.behind) (keeps p.made) p.next p.made
+  PartIs value text made def keeps (Err s) = Halts text def s.0
 
-unfoldable pub PartIs : List ℕ → ℕ → Res Went → (ℕ → List ℕ → Type 0) → part.PartRead → Type 0
-PartIs text made def keeps (part_is.Past n at to) = Goes text made def (part_value n) (keeps to) at to
-PartIs text made def keeps (part_is.Stuck p) = Halts text def p
+  pub record PartGoes (value : A → List ℕ → B) (text : List ℕ) (made : ℕ) (def : Res B) (keeps : ℕ → List ℕ → Type 0)
+      (r : Result (Part A) Stuck) : Type 0 where
+    pub goes : PartIs value text made def keeps r
 
-abbrev pub counted_read : next.NextRead → ℕ → part.PartRead
-counted_read (next-is.Past n at) to = part_is.Past n at to
-counted_read (next-is.Stuck p) to = part_is.Stuck p
+abbrev pub counted_read : Result (Read Next) Stuck → ℕ → Result (Part Next) Stuck
+counted_read (Ok r) to = Ok (record { behind = r.what; next = r.next; made = to })
+counted_read (Err s) to = Err s
 
-pub record OperandGoes (text : List ℕ) (made : ℕ) (def : Res Operand) (keeps : ℕ → List ℕ → Type 0)
-    (r : operand.OperandRead) : Type 0 where
-  pub goes : OperandIs text made def keeps r
+abbrev pub ReadsOperand :
+    (text before after : List ℕ) (made : ℕ) → Res Operand → Result (Part Before) Stuck → Type 0
+ReadsOperand text before after made def r = PartGoes operand_value text made def (Adding before after made) r
 
-pub record PartGoes (text : List ℕ) (made : ℕ) (def : Res Went) (keeps : ℕ → List ℕ → Type 0) (r : part.PartRead)
-    : Type 0 where
-  pub goes : PartIs text made def keeps r
-
-abbrev pub ReadsOperand : (text before after : List ℕ) (made : ℕ) → Res Operand → operand.OperandRead → Type 0
-ReadsOperand text before after made def r = OperandGoes text made def (Adding before after made) r
-
-abbrev pub ReadsPart : (text before after : List ℕ) (made : ℕ) → Res Went → part.PartRead → Type 0
-ReadsPart text before after made def r = PartGoes text made def (Adding before after made) r
+abbrev pub ReadsPart : (text before after : List ℕ) (made : ℕ) → Res Went → Result (Part Next) Stuck → Type 0
+ReadsPart text before after made def r = PartGoes part_value text made def (Adding before after made) r
 
 abbrev pub FollowsPart :
-    (text before after : List ℕ) (start made : ℕ) → List ℕ → Res Went → part.PartRead → Type 0
-FollowsPart text before after start made ys def r = PartGoes text made def (Putting before after start made ys) r
+    (text before after : List ℕ) (start made : ℕ) → List ℕ → Res Went → Result (Part Next) Stuck → Type 0
+FollowsPart text before after start made ys def r =
+    PartGoes part_value text made def (Putting before after start made ys) r

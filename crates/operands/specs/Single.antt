@@ -5,11 +5,11 @@
 --     root_close k, root_number, root_word     parts of root
 --     behind_operand ..       the word behind an operand with records xs, and the steps between
 --     one_step e c xs         a step behind its /, of an operand with records xs, and the word behind it
-use Rattle.std.specs.Prelude.{ℕ, ◌-◌, List, [], ◌∷◌, ◌++◌, Bool, cond, eqb}
+use Rattle.std.specs.Prelude.{ℕ, List, [], ◌∷◌, ◌++◌, Bool, cond, eqb}
 use Rattle.grammar.specs.Words.{Kind, symbol, word, name, close_sign}
 use Rattle.grammar.specs.Records.{minus_bits, record_ql, record_qv, record_qr, record_qx}
 use Rattle.parsing.specs.declared.Ends.{Ends}
-use Rattle.parsing.specs.Reader.{Reader, then, give, halt, either, entry, letters, number, read_variable, read_word}
+use Rattle.parsing.specs.Reader.{Reader, then, halt, either, entry, letters, number, read_variable, read_word}
 use Rattle.parsing.specs.Reader.{read_root, read_step, read_next, test_kind, Operand, operand, Went, went, Readers}
 use Rattle.parsing.specs.Reader.{more_steps}
 
@@ -37,8 +37,8 @@ abbrev pub one_step : Ends → Bool → List ℕ → Reader Went
 one_step e c xs t =
     then (read_step t)
     (λ s u.
-    then (read_next e c (test_kind s.passing) u)
-    (λ m. went (record_qx s.along s.passing ++ xs) m))
+    then (read_next e c (test_kind s.test) u)
+    (λ m. went (record_qx s.axis s.test ++ xs) m))
 
 abbrev pub behind_operand : Readers → Ends → Bool → Kind → List ℕ → Reader Went
 behind_operand rd e c k xs t = then (read_next e c k t) (λ n. more_steps rd e c xs n)

@@ -9,25 +9,24 @@ ghost use Rattle.recording.specs.Recorded.{most_bytes, Adds};
 ghost use Rattle.operands.specs.Going;
 ghost use Rattle.operands.specs.Single;
 
-use numerals::{Fixed, Numeral, spaces, word};
+use numerals::{Stuck, spaces, word};
 use parsing::Next;
 use recording::{add_integer, add_root, add_truth, add_variable};
 use spelling::{Before, called, fixed};
 
-// An operand: what its last word is, where it ends, and how many record bytes there are then; or the place where no
-// text of the grammar goes on.
+// What was read up to what stands behind it: that, where it ends, and how many record bytes there are then.
 #[derive(Clone, Copy)]
-pub enum OperandRead {
-    Past(Before, usize, usize),
-    Stuck(usize),
+pub struct Part<T> {
+    pub behind: T,
+    pub next: usize,
+    pub made: usize,
 }
 
-// A part: the word behind it, where that ends, and how many record bytes there are then.
-#[derive(Clone, Copy)]
-pub enum PartRead {
-    Past(Next, usize, usize),
-    Stuck(usize),
-}
+// An operand, and what its last word is; or the place where no text of the grammar goes on.
+pub type OperandRead = Result<Part<Before>, Stuck>;
+
+// A part, and the word behind it.
+pub type PartRead = Result<Part<Next>, Stuck>;
 
 // Adds the record of a number or, where a minus stands before it, of its negative.
 fn add_number(query: &mut [u8], made: usize, n: usize, minus: bool) -> usize
@@ -54,13 +53,13 @@ pub fn number(
     ensures { Going.ReadsOperand text.now query.old query.new made
         (Single.number_operand most minus (drop at text.now)) result }
 {
-    match numerals::number(text, at, most) {
-        Numeral::Is(n, next) => {
-            let to = add_number(query, made, n, minus);
-            OperandRead::Past(Before::Word, next, to)
-        }
-        Numeral::Stuck(place) => OperandRead::Stuck(place),
-    }
+    let n = numerals::number(text, at, most)?;
+    let to = add_number(query, made, n.what, minus);
+    Ok(Part {
+        behind: Before::Word,
+        next: n.next,
+        made: to,
+    })
 }
 
 // A variable behind its `$`.
@@ -69,13 +68,13 @@ pub fn variable(text: &[u8], query: &mut [u8], at: usize, made: usize) -> Operan
     ensures { Going.ReadsOperand text.now query.old query.new made
         (Single.variable_operand (drop at text.now)) result }
 {
-    match spelling::variable(text, at) {
-        Numeral::Is(v, next) => {
-            let to = add_variable(query, made, v);
-            OperandRead::Past(Before::Name, next, to)
-        }
-        Numeral::Stuck(place) => OperandRead::Stuck(place),
-    }
+    let v = spelling::variable(text, at)?;
+    let to = add_variable(query, made, v.what);
+    Ok(Part {
+        behind: Before::Name,
+        next: v.next,
+        made: to,
+    })
 }
 
 // The rest of `true` or `false`, and its parentheses.
@@ -91,13 +90,13 @@ pub fn truth(
     ensures { Going.ReadsOperand text.now query.old query.new made
         (Reader.read_truth value rest.now (drop at text.now)) result }
 {
-    match called(text, at, rest) {
-        Fixed::Past(next) => {
-            let to = add_truth(query, made, value);
-            OperandRead::Past(Before::Symbol, next, to)
-        }
-        Fixed::Stuck(place) => OperandRead::Stuck(place),
-    }
+    let next = called(text, at, rest)?;
+    let to = add_truth(query, made, value);
+    Ok(Part {
+        behind: Before::Symbol,
+        next,
+        made: to,
+    })
 }
 
 // The parenthesis behind the number of a fragment, which is 1 to 255.
@@ -108,15 +107,15 @@ fn root_close(text: &[u8], query: &mut [u8], at: usize, made: usize, k: usize) -
 {
     let none = k == 0;
     if none {
-        return OperandRead::Stuck(at);
+        return Err(Stuck(at));
     }
-    match fixed(text, at, Before::Word, b")") {
-        Fixed::Past(next) => {
-            let to = add_root(query, made, k);
-            OperandRead::Past(Before::Symbol, next, to)
-        }
-        Fixed::Stuck(place) => OperandRead::Stuck(place),
-    }
+    let next = fixed(text, at, Before::Word, b")")?;
+    let to = add_root(query, made, k);
+    Ok(Part {
+        behind: Before::Symbol,
+        next,
+        made: to,
+    })
 }
 
 // The number of a fragment, from the spaces before it on.
@@ -125,10 +124,8 @@ fn root_number(text: &[u8], query: &mut [u8], at: usize, made: usize) -> Operand
     ensures { Going.ReadsOperand text.now query.old query.new made
         (Single.root_number (drop at text.now)) result }
 {
-    match numerals::number(text, spaces(text, at), 255) {
-        Numeral::Is(k, next) => root_close(text, query, next, made, k),
-        Numeral::Stuck(place) => OperandRead::Stuck(place),
-    }
+    let k = numerals::number(text, spaces(text, at), 255)?;
+    root_close(text, query, k.next, made, k.what)
 }
 
 // The parentheses behind `root`.
@@ -137,10 +134,8 @@ fn root_open(text: &[u8], query: &mut [u8], at: usize, made: usize) -> OperandRe
     ensures { Going.ReadsOperand text.now query.old query.new made
         (Reader.read_root (drop at text.now)) result }
 {
-    match fixed(text, at, Before::Word, b"(") {
-        Fixed::Past(next) => root_number(text, query, next, made),
-        Fixed::Stuck(place) => OperandRead::Stuck(place),
-    }
+    let next = fixed(text, at, Before::Word, b"(")?;
+    root_number(text, query, next, made)
 }
 
 // The rest of `root`, and its fragment in parentheses.
@@ -149,8 +144,6 @@ pub fn root(text: &[u8], query: &mut [u8], at: usize, made: usize) -> OperandRea
     ensures { Going.ReadsOperand text.now query.old query.new made
         (Single.root_word (drop at text.now)) result }
 {
-    match word(text, at, b"oot") {
-        Fixed::Past(next) => root_open(text, query, next, made),
-        Fixed::Stuck(place) => OperandRead::Stuck(place),
-    }
+    let next = word(text, at, b"oot")?;
+    root_open(text, query, next, made)
 }

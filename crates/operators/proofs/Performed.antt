@@ -1,5 +1,6 @@
 -- What each operator makes of the tables that are listed is what the definitions make of them.
 --     one_made .. root_made   the promise of an operator's code is the promise of the operator
+use Rattle.std.specs.Prelude.{Result}
 use Prim.Native.Nat.{ℕ, ◌+◌, ◌<◌}
 use mathlib.Core.Path.{◌≡◌, refl, sym, ap, ap₂, subst}
 use mathlib.Core.List.{List, [], ◌∷◌, ◌++◌}
@@ -13,7 +14,7 @@ use Rattle.meaning.specs.Operators as Operators
 use Rattle.meaning.specs.Operators.{Table, table_of, make}
 use Rattle.meaning.specs.Plan.{columns_at}
 use Rattle.meaning.specs.World.{world_of}
-use Rattle.tables.specs.declared.Laid.{Laid}
+use Rattle.tables.specs.declared.Unlaid.{Unlaid}
 use Rattle.rowwise.specs.declared.Task.{Task}
 use Rattle.rowwise.specs.declared.Task.TheVariants as Task
 use Rattle.tables.specs.Layout.{table_at, Owes}
@@ -30,7 +31,7 @@ use Rattle.directory.proofs.Entries.{table_of_lem}
 use Rattle.directory.specs.Sound.{wide, made_of, made_width, SoundOf, SoundOperator}
 use Rattle.directory.proofs.Cases.{sound_case, owes_case}
 
-module _ (room at n : ℕ) (plan dir : List ℕ) (c : Catalogue) (xs ys : List ℤ) (r : Laid) (o : Operator)
+module _ (room at n : ℕ) (plan dir : List ℕ) (c : Catalogue) (xs ys : List ℤ) (r : Result ℕ Unlaid) (o : Operator)
     (sound : SoundOperator plan dir n o) where
   abbrev ts : List Table
   ts = tables_in xs dir n

@@ -178,7 +178,7 @@ read_test_lem (named n small) vs t h sp =
 
 pub read_step_lem : (x : Axis) (y : NodeTest) (vs : List Word) (t : List ℕ) → Sound vs
     → Spells symbol (axis_word x ∷ axis_sign ∷ (node_test_words y ++ vs)) t
-    → Reached (read_step t) (record { along = x; passing = tested y }) (test_kind (tested y)) vs (length t)
+    → Reached (read_step t) (record { axis = x; test = tested y }) (test_kind (tested y)) vs (length t)
 read_step_lem x y vs t h sp =
     reached_then _
     (read_axis_lem x (node_test_words y ++ vs) t sp)

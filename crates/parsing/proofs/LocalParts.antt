@@ -84,7 +84,7 @@ module _ {x : Likeness} {n : ℕ} where
       takes_then (takes_entry symbol takes_axis)
       (λ a.
       local_then (local_word word axis_sign)
-      (λ done. local_then (local_entry symbol local_test) (λ p. local_give (record { along = a; passing = p }))))
+      (λ done. local_then (local_entry symbol local_test) (λ p. local_give (record { axis = a; test = p }))))
 
   -- Operands
 
@@ -143,8 +143,8 @@ module _ {x : Likeness} {n : ℕ} {rd rd' : Readers} (inner : Inner x n rd rd') 
       local_either (eqb (tightness m) 4)
       (local_behind takes_step
       (λ s.
-      local_then (local_next e c (test_kind s.passing))
-      (λ l. inner.steps e c (record_qx s.along s.passing ++ xs) l)))
+      local_then (local_next e c (test_kind s.test))
+      (λ l. inner.steps e c (record_qx s.axis s.test ++ xs) l)))
       (local_went xs m)
 
   takes_path :

@@ -186,13 +186,13 @@ module _ (rd : Readers) (right : Right rd) where
           (λ t.
           then (read_step t)
           (λ st u.
-          then (read_next e c (test_kind st.passing) u)
-          (λ m. rd.steps e c (record_qx st.along st.passing ++ xs) m)))
+          then (read_next e c (test_kind st.test) u)
+          (λ m. rd.steps e c (record_qx st.axis st.test ++ xs) m)))
           (went xs n) u)
       go true h =
           then_judged (step_judged u)
           (λ st s₁ u₁ f.
-          then_judged (next_judged e c (test_kind st.passing) u₁)
+          then_judged (next_judged e c (test_kind st.test) u₁)
           (λ m s₂ u₂ g.
           mapped
           (λ s₃ v w b.

@@ -21,7 +21,8 @@ use Rattle.parsing.specs.declared.Ends.{Ends}
 use Rattle.parsing.specs.declared.Ends.TheVariants.{WithText, WithList, WithCall, WithReturn, WithElse}
 use Rattle.parsing.specs.declared.Next.{Next}
 use Rattle.parsing.specs.declared.Next.TheVariants.{Slash}
-use Rattle.parsing.specs.Reader.{next_words, kind_of, operation, test_kind, Operand, Went, Step}
+use Rattle.parsing.specs.declared.Step.{Step}
+use Rattle.parsing.specs.Reader.{next_words, kind_of, operation, test_kind, Operand, Went}
 use Rattle.parsing.proofs.SoundWords.{Spelt, Entered, Filled, filled_left, filled_right, spaced_one, spelt_word}
 use Rattle.parsing.proofs.SoundWords.{entered_spells, entered_spelt, entered_filled}
 use Rattle.parsing.proofs.SoundNumbers.{one, one_value, one_bytes}
@@ -175,13 +176,13 @@ entered_primed h =
 module _ {d : ℕ} {e : Ends} {c : Bool} {k : Kind} where
   pub walked : {s u s₁ s₂ v : List ℕ} {xs : List ℕ} {st : Step} {n : Next}
       → Arrived path d 5 e c k s u (record { made = xs; next = Slash }) → Stepped s₁ st
-      → Following e c (test_kind st.passing) s₂ v n
+      → Following e c (test_kind st.test) s₂ v n
       → Arrived path d 5 e c k (s ++ (s₁ ++ s₂)) v
-      (record { made = record_qx st.along st.passing ++ xs; next = n })
+      (record { made = record_qx st.axis st.test ++ xs; next = n })
   unfolding words records
   walked {s} {u} {s₁} {s₂} {v} {xs} {st} {n} a h f =
       record {
-        part = stepped a.part st.along h.test;
+        part = stepped a.part st.axis h.test;
         meant = rw (h.meant, a.meant);
         behind = λ more x g.
             rw (append_assoc s (s₁ ++ s₂) x, append_assoc s₁ s₂ x)

@@ -176,10 +176,10 @@ steps_stopped {d} {e} {c} {k} {s} {u} {xs} {n} a =
     let (x, st, f) = complete (step_judged []) in
     let b =
     walked (subst (λ z. Arrived path d 5 e c k s u (record { made = xs; next = z })) (only n h) a) f
-    (following_end e c (test_kind st.passing))
+    (following_end e c (test_kind st.test))
     in
     inhabited (x ++ (32 ∷ next_bytes (end_of e)))
-    (record { made = record_qx st.along st.passing ++ xs; next = end_of e })
+    (record { made = record_qx st.axis st.test ++ xs; next = end_of e })
     (lifted b b.part refl refl (loose_end e 4)))
     (λ h.
     inhabited [] (record { made = xs; next = n })

@@ -19,7 +19,8 @@ use Rattle.grammar.specs.Words.{symbol, word, name, Var, NodeTest, any_node, ele
 use Rattle.grammar.specs.Words.{variable_word, axis_word, axis_sign, node_test_words, name_word, node_word, text_word, star_sign}
 use Rattle.grammar.specs.Words.{open_sign, close_sign}
 use Rattle.laws.specs.Characters.{first}
-use Rattle.parsing.specs.Reader.{ok, rest, is_variable, read_variable, read_axis, read_test, test_kind, Step, read_step}
+use Rattle.parsing.specs.declared.Step.{Step}
+use Rattle.parsing.specs.Reader.{ok, rest, is_variable, read_variable, read_axis, read_test, test_kind, read_step}
 use Rattle.parsing.proofs.SoundJudged.{Judged, passes, mapped, inhabited, given, look_judged, byte_judged}
 use Rattle.parsing.proofs.SoundJudged.{then_judged}
 use Rattle.parsing.proofs.SoundWords.{Spelt, Filled, spelt_append, spelt_bytes, entered_word, entered_spelt}
@@ -145,8 +146,8 @@ test_judged =
 
 pub record Stepped (s : List ℕ) (st : Step) : Type 0 where
   pub test : NodeTest
-  pub meant : tested test ≡ st.passing
-  pub spelt : Spelt symbol (axis_word st.along ∷ axis_sign ∷ node_test_words test) (test_kind st.passing) s
+  pub meant : tested test ≡ st.test
+  pub spelt : Spelt symbol (axis_word st.axis ∷ axis_sign ∷ node_test_words test) (test_kind st.test) s
 
 pub step_judged : (t : List ℕ) → Judged (λ s u st. Stepped s st) t (read_step t)
 step_judged t =
@@ -156,7 +157,7 @@ step_judged t =
     (λ done s₁ u₁ h.
     then_judged (entry_judged symbol test_judged u₁)
     (λ p s₂ u₂ e₂.
-    given (record { along = x; passing = p })
+    given (record { axis = x; test = p })
     (record {
       test = e₂.inside.test;
       meant = e₂.inside.meant;

@@ -25,7 +25,7 @@
 --     read_axis, read_test        an axis; a test
 --     read_name                  the number of a name, behind its n
 --     test_kind t                the kind of a test's last word
---     Step, read_step            a step: axis, ::, test
+--     read_step                 a step: axis, ::, test
 --
 --     by_text, by_comma, by_close, by_return, by_else     what a part may end with
 --     tightness n               what chain a word goes on with: 0 of commas, 1 compared, 2 of terms, 3 of factors,
@@ -65,6 +65,7 @@ use Rattle.parsing.specs.declared.Ends.TheVariants.{WithText, WithList, WithCall
 use Rattle.parsing.specs.declared.Next.{Next}
 use Rattle.parsing.specs.declared.Next.TheVariants.{Slash, Star, Idiv, Plus, Minus, Eq, Lt, Comma, Close}
 use Rattle.parsing.specs.declared.Next.TheVariants.{Return, Else, End}
+use Rattle.parsing.specs.declared.Step.{Step}
 
 pub data Res (A : Type 0) : Type 0 where
   ok : A → List ℕ → Res A
@@ -187,16 +188,12 @@ test_kind Element = symbol
 test_kind Text = symbol
 test_kind (Named n) = name
 
-pub record Step : Type 0 where
-  pub along : Axis
-  pub passing : Test
-
 abbrev pub read_step : Reader Step
 read_step t =
     then (entry symbol read_axis t)
     (λ x u.
     then (read_word word axis_sign u)
-    (λ done v. then (entry symbol read_test v) (λ p. give (record { along = x; passing = p }))))
+    (λ done v. then (entry symbol read_test v) (λ p. give (record { axis = x; test = p }))))
 
 -- The word after an operand
 
@@ -391,8 +388,8 @@ module _ (rd : Readers) where
       (λ t.
       then (read_step t)
       (λ s u.
-      then (read_next e c (test_kind s.passing) u)
-      (λ m. rd.steps e c (record_qx s.along s.passing ++ xs) m)))
+      then (read_next e c (test_kind s.test) u)
+      (λ m. rd.steps e c (record_qx s.axis s.test ++ xs) m)))
       (went xs n)
 
   abbrev pub read_path : ℕ → Ends → Bool → Bool → Kind → Reader Went

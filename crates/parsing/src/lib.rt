@@ -1,9 +1,11 @@
 // No code: this crate holds the reader of typed queries as a definition, and the words that it shares with code.
 #![tactic(auto)]
 
+use codes::{Axis, Test};
+
 // How a part of a text ends: with the text, with a list's parenthesis, with a call's parenthesis, with `return`, with
 // `else`.
-#[derive(Clone, Copy)]
+#[derive(Clone, Copy, PartialEq, Eq)]
 pub enum Ends {
     WithText,
     WithList,
@@ -27,6 +29,13 @@ pub enum Next {
     Return,
     Else,
     End,
+}
+
+// A step.
+#[derive(Clone, Copy)]
+pub struct Step {
+    pub axis: Axis,
+    pub test: Test,
 }
 
 pub fn nothing() {}

@@ -9,13 +9,14 @@ ghost use Rattle.operands.specs.Going;
 ghost use Rattle.operands.specs.Single;
 
 use codes::{Function, Test};
-use numerals::word;
-use operands::PartRead;
+use numerals::Stuck;
+use operands::{Part, PartRead};
 use parsing::{Ends, Next};
 use recording::{insert_function, insert_sequence, insert_step};
-use spelling::{Before, NextRead, StepRead};
+use spelling::Before;
 
 // Puts the record of an operator in before its first operand.
+#[tactic(auto, using(operands::proofs::Bytes::inserts_none))]
 pub fn insert_operation(query: &mut [u8], start: usize, made: usize, next: Next) -> usize
     requires { (length query.old ≡ most_bytes) × (made ≤ most_bytes) × (start ≤ made) }
     ensures { Inserts (Reader.operation next) start made query.old query.new result }
@@ -28,11 +29,7 @@ pub fn insert_operation(query: &mut [u8], start: usize, made: usize, next: Next)
         Next::Eq => insert_function(query, start, made, Function::Equal),
         Next::Lt => insert_function(query, start, made, Function::Less),
         Next::Comma => insert_sequence(query, start, made),
-        Next::Slash => made,
-        Next::Close => made,
-        Next::Return => made,
-        Next::Else => made,
-        Next::End => made,
+        Next::Slash | Next::Close | Next::Return | Next::Else | Next::End => made,
     }
 }
 
@@ -42,17 +39,11 @@ pub fn tightness(next: Next) -> usize
 {
     match next {
         Next::Slash => 4,
-        Next::Star => 3,
-        Next::Idiv => 3,
-        Next::Plus => 2,
-        Next::Minus => 2,
-        Next::Eq => 1,
-        Next::Lt => 1,
+        Next::Star | Next::Idiv => 3,
+        Next::Plus | Next::Minus => 2,
+        Next::Eq | Next::Lt => 1,
         Next::Comma => 0,
-        Next::Close => 5,
-        Next::Return => 5,
-        Next::Else => 5,
-        Next::End => 5,
+        Next::Close | Next::Return | Next::Else | Next::End => 5,
     }
 }
 
@@ -61,18 +52,8 @@ pub fn kind_of(next: Next) -> Before
     ensures { Answers.kind_is result ≡ Reader.kind_of next }
 {
     match next {
-        Next::Slash => Before::Symbol,
-        Next::Star => Before::Symbol,
-        Next::Idiv => Before::Word,
-        Next::Plus => Before::Symbol,
-        Next::Minus => Before::Symbol,
-        Next::Eq => Before::Word,
-        Next::Lt => Before::Word,
-        Next::Comma => Before::Symbol,
-        Next::Close => Before::Symbol,
-        Next::Return => Before::Word,
-        Next::Else => Before::Word,
-        Next::End => Before::Symbol,
+        Next::Idiv | Next::Eq | Next::Lt | Next::Return | Next::Else => Before::Word,
+        _ => Before::Symbol,
     }
 }
 
@@ -81,20 +62,8 @@ fn test_kind(test: Test) -> Before
     ensures { Answers.kind_is result ≡ Reader.test_kind test }
 {
     match test {
-        Test::AnyNode => Before::Symbol,
-        Test::Element => Before::Symbol,
-        Test::Text => Before::Symbol,
+        Test::AnyNode | Test::Element | Test::Text => Before::Symbol,
         Test::Named(_) => Before::Name,
-    }
-}
-
-// The word behind a part, with how many record bytes there are.
-fn counted(next: NextRead, made: usize) -> PartRead
-    ensures { result ≡ Going.counted_read next made }
-{
-    match next {
-        NextRead::Past(behind, from) => PartRead::Past(behind, from, made),
-        NextRead::Stuck(place) => PartRead::Stuck(place),
     }
 }
 
@@ -112,55 +81,44 @@ fn one_step(
     ensures { (ys : List ℕ) → Going.FollowsPart text.now query.old query.new
         start made ys (Single.one_step ends compared ys (drop at text.now)) result }
 {
-    match step_words::step(text, at) {
-        StepRead::Past(axis, test, next) => {
-            let to = insert_step(query, start, made, axis, test);
-            counted(
-                next_words::next(text, next, ends, compared, test_kind(test)),
-                to,
-            )
-        }
-        StepRead::Stuck(place) => PartRead::Stuck(place),
-    }
+    let step = step_words::step(text, at)?;
+    let to = insert_step(query, start, made, step.what.axis, step.what.test);
+    let found = next_words::next(text, step.next, ends, compared, test_kind(step.what.test))?;
+    Ok(Part {
+        behind: found.what,
+        next: found.next,
+        made: to,
+    })
 }
 
-// The steps behind an operand whose records begin at `start`.
+// The steps behind a part whose records begin at `start`.
 fn steps(
     text: &[u8],
     query: &mut [u8],
     start: usize,
-    at: usize,
-    made: usize,
+    part: Part<Next>,
     left: usize,
     ends: Ends,
     compared: bool,
-    next: Next,
 ) -> PartRead
-    requires { (at ≤ length text.now) × (length query.old ≡ most_bytes) × (made ≤ most_bytes) × (start ≤ made) }
+    requires { (part.next ≤ length text.now) × (length query.old ≡ most_bytes) × (part.made ≤ most_bytes)
+        × (start ≤ part.made) }
     ensures { (ys : List ℕ) → Going.FollowsPart text.now query.old query.new
-        start made ys
-        (Reader.more_steps (Reader.readers left) ends compared ys next (drop at text.now)) result }
+        start part.made ys
+        (Reader.more_steps (Reader.readers left) ends compared ys part.behind (drop part.next text.now)) result }
 {
-    let mut at = at;
-    let mut made = made;
+    let mut part = part;
     let mut left = left;
-    let mut next = next;
-    loop {
-        if tightness(next) != 4 {
-            return PartRead::Past(next, at, made);
-        }
-        let answer = one_step(text, query, start, at, made, ends, compared);
-        let PartRead::Past(behind, from, to) = answer else {
-            return answer;
-        };
+    // As it is: (d) each step says where the next begins, so no range counts them.
+    while tightness(part.behind) == 4 {
+        let next = one_step(text, query, start, part.next, part.made, ends, compared)?;
         if left == 0 {
-            return PartRead::Stuck(from);
+            return Err(Stuck(next.next));
         }
         left -= 1;
-        next = behind;
-        at = from;
-        made = to;
+        part = next;
     }
+    Ok(part)
 }
 
 // The word behind an operand, and the steps between.
@@ -180,10 +138,11 @@ pub fn behind(
         start made ys (Single.behind_operand (Reader.readers left) ends compared (Answers.kind_is before) ys
         (drop at text.now)) result }
 {
-    match next_words::next(text, at, ends, compared, before) {
-        NextRead::Past(found, from) => steps(
-            text, query, start, from, made, left, ends, compared, found,
-        ),
-        NextRead::Stuck(place) => PartRead::Stuck(place),
-    }
+    let found = next_words::next(text, at, ends, compared, before)?;
+    let part = Part {
+        behind: found.what,
+        next: found.next,
+        made,
+    };
+    steps(text, query, start, part, left, ends, compared)
 }

@@ -7,13 +7,12 @@
 --     penned_whole         written over zeros from 0 on: padded with zeros
 --     cleared_from_0       zeros from 0 on are zeros only
 --     cleared_penned       what is written from 0 on, then zeros from its end on: padded with zeros
---     cleared_more         one zero more: what is left gives what the whole gives
+--     cleared_filled       zeros from a place on
 --     cleared_all          past the end nothing is left
-use Prim.Native.Nat.{ℕ, suc, ◌+◌, ◌-◌, ◌≤◌, ◌<◌}
+use Prim.Native.Nat.{ℕ, suc, ◌+◌, ◌-◌, ◌≤◌}
 use mathlib.Core.Path.{◌≡◌, refl, sym, ap, ◌∙◌}
-use mathlib.Core.List.{List, [], ◌∷◌, ◌++◌, append_assoc, append-nil}
+use mathlib.Core.List.{List, [], ◌∷◌, ◌++◌, append-nil}
 use native.Mathlib.Omega.{arith}
-use native.Mathlib.Numerals.{add-one}
 use native.Mathlib.Nat.{add-zero, zero-add, sub-zero}
 use lib.ListN.{
   length,
@@ -21,12 +20,14 @@ use lib.ListN.{
   drop,
   set,
   replicate,
-  length-append,
   length-set,
   length-replicate,
   replicate-append-replicate,
+  length-drop,
+  drop_of_length-le,
 }
-use lib.Seq.{take_all, take-suc-set, take-append_seam, drop_at, length-take-le}
+use borrow.Rule.Slice.PartMut.{put_mid}
+use lib.Seq.{take_all, take-append_seam, drop_at, length-take-le}
 use Rattle.laws.specs.Rows.{laid, padded}
 use Rattle.laws.proofs.Rows.{laid_nothing, laid_more, set_laid}
 use Rattle.pen.specs.Penned.{penned}
@@ -88,16 +89,21 @@ module _ {A : Type 0} where
       padded z n (take (length ys) (penned xs 0 ys)) ≡ padded z n ys
   cleared_penned n z xs ys h = ap (padded z n) (take_penned xs ys h)
 
-  pub cleared_more :
-      (n : ℕ) (z : A) (xs : List A) (i : ℕ) → i < length xs → length xs ≡ n →
-      padded z n (take (i + 1) (set xs i z)) ≡ padded z n (take i xs)
+  -- the members from i on, all filled with z
+  pub cleared_filled :
+      (xs ys : List A) (i : ℕ) (z : A) → i ≤ length xs
+      → ys ≡ replicate (length (take (length xs - i) (drop i xs))) z
+      → put_mid i (length xs - i) xs ys ≡ padded z (length xs) (take i xs)
   unfolding padded
-  cleared_more n z xs i h e =
-      let front = take i xs in
-      let k : length front ≡ i = length-take-le i xs (omega arith) in
-      let more : suc (n - (i + 1)) ≡ n - i = omega arith in
-      rw (add-one i, take-suc-set xs i z h, length-append front (z ∷ []), k, append_assoc front (z ∷ []))
-      (ap (λ (m : ℕ). front ++ replicate m z) more)
+  cleared_filled xs ys i z h e =
+      let rest : length (drop i xs) ≡ length xs - i = length-drop i xs in
+      rw (
+        e,
+        length-take-le (length xs - i) (drop i xs) (omega arith),
+        length-take-le i xs h,
+        drop_of_length-le (drop i xs) {i = length xs - i} (omega arith),
+        append-nil (replicate (length xs - i) z),
+      )
 
   pub cleared_all : (n : ℕ) (z : A) (xs : List A) (i : ℕ) → n ≤ i → length xs ≡ n → padded z n (take i xs) ≡ xs
   unfolding padded

@@ -3,7 +3,7 @@
 // written: `put` alone asks how many bytes there are.
 #![tactic(auto)]
 
-ghost use Rattle.std.specs.Prelude.{◌≡◌, [], ◌∷◌, ◌+◌, ◌^◌, ◌<◌, nat_abs, length, take};
+ghost use Rattle.std.specs.Prelude.{◌≡◌, [], ◌∷◌, ◌+◌, ◌^◌, ◌<◌, length, take};
 ghost use Rattle.cells.specs.Bytes.{bytes_of, bits8};
 ghost use Rattle.laws.specs.Rows.{padded};
 ghost use Rattle.pen.specs.Penned.{Pens};
@@ -82,10 +82,8 @@ pub fn put_word(bytes: &mut [u8], at: usize, word: &[u8]) -> usize
     ensures { Pens at word.now bytes.old bytes.new result }
 {
     let mut end = at;
-    let mut i: usize = 0;
-    while i < word.len() {
-        end = put(bytes, end, word[i]);
-        i += 1;
+    for byte in word {
+        end = put(bytes, end, *byte);
     }
     end
 }
@@ -95,7 +93,7 @@ fn digit(n: usize) -> u8
     requires { n < 10 }
     ensures { result ≡ 48 + n }
 {
-    (48 + n) as u8
+    b'0' + (n as u8)
 }
 
 // Writes a number in decimal, `left` digits at most: those before the last, then the last.
@@ -121,36 +119,24 @@ pub fn put_number(bytes: &mut [u8], at: usize, n: usize) -> usize
     put_digits(bytes, at, 20, n)
 }
 
-// How far an integer is from zero.
-fn magnitude(z: i32) -> usize
-    ensures { result ≡ nat_abs z }
-{
-    if z < 0 {
-        ((-1 - z) as usize) + 1
-    } else {
-        z as usize
-    }
-}
-
 // Writes an integer in decimal, with its sign.
 pub fn put_signed(bytes: &mut [u8], at: usize, z: i32) -> usize
     requires { at + 21 < 2 ^ 64 }
     ensures { Pens at (signed z) bytes.old bytes.new result }
 {
+    let far = z.unsigned_abs() as usize;
     if z < 0 {
         let a = put(bytes, at, b'-');
-        return put_number(bytes, a, magnitude(z));
+        return put_number(bytes, a, far);
     }
-    put_number(bytes, at, magnitude(z))
+    put_number(bytes, at, far)
 }
 
 // Zeroes every byte from `from` on.
 pub fn clear(bytes: &mut [u8], from: usize)
     ensures { bytes.new ≡ padded 0 (length bytes.old) (take from bytes.old) }
 {
-    let mut i = from;
-    while i < bytes.len() {
-        bytes[i] = 0;
-        i += 1;
+    if from < bytes.len() {
+        bytes[from..].fill(0);
     }
 }

@@ -2,13 +2,13 @@
 // operands of a record.
 #![tactic(auto)]
 
-ghost use Rattle.std.specs.Prelude.{◌≡◌, ◌+◌, ◌^◌, ◌<◌};
+ghost use Rattle.std.specs.Prelude.{◌≡◌, ◌+◌, ◌^◌, ◌<◌, ◌≤◌, ◌++◌, length};
 ghost use Rattle.cells.specs.Cell.{held, cell_of};
 ghost use Rattle.cells.specs.Small.{Small};
 ghost use Rattle.pen.specs.Penned.{Pens};
 ghost use Rattle.grammar.specs.Words.{axis_word};
 ghost use Rattle.grammar.specs.Written.{dollar, truth_text, item_text, test_text, step_text, function_word, spaced};
-ghost use Rattle.grammar.specs.Written.{root_text, for_head, let_head, opening, closing};
+ghost use Rattle.grammar.specs.Written.{root_text, opening, closing};
 ghost use Rattle.query_records.specs.Decoded.{record_of};
 ghost use Rattle.phrases.specs.Phrases.{head_of, between_of, tail_of, Headed};
 
@@ -32,24 +32,14 @@ fn put_variable(text: &mut [u8], at: usize, v: usize) -> usize
     pen::put_pair(text, at, b'$', letter(v))
 }
 
-// `for $a in `.
-fn put_for(text: &mut [u8], at: usize, v: usize) -> usize
-    requires { (v < 8) × (at + 10 < 2 ^ 64) }
-    ensures { Pens at (for_head v) text.old text.new result }
+// The head of `for` or `let`: its word, the variable that it binds, and what stands behind that.
+fn put_binding(text: &mut [u8], at: usize, head: &[u8], v: usize, behind: &[u8]) -> usize
+    requires { (v < 8) × (at + length head.now + 2 + length behind.now < 2 ^ 64) }
+    ensures { Pens at (head.now ++ (dollar v ++ behind.now)) text.old text.new result }
 {
-    let a = pen::put_word(text, at, b"for ");
+    let a = pen::put_word(text, at, head);
     let b = put_variable(text, a, v);
-    pen::put_word(text, b, b" in ")
-}
-
-// `let $a := `.
-fn put_let(text: &mut [u8], at: usize, v: usize) -> usize
-    requires { (v < 8) × (at + 10 < 2 ^ 64) }
-    ensures { Pens at (let_head v) text.old text.new result }
-{
-    let a = pen::put_word(text, at, b"let ");
-    let b = put_variable(text, a, v);
-    pen::put_word(text, b, b" := ")
+    pen::put_word(text, b, behind)
 }
 
 // `root(1)`.
@@ -88,6 +78,7 @@ fn put_item(text: &mut [u8], at: usize, item: Item) -> usize
 }
 
 // What stands before the operands of a record: the whole text, where it has none.
+#[tactic(auto, unfolding(crate::specs::Phrases::head_of, query_records::specs::Decoded::record_of))]
 pub fn put_head(text: &mut [u8], at: usize, kind: Record) -> usize
     requires { Headed kind × (at + 64 < 2 ^ 64) }
     ensures { Pens at (head_of (record_of kind)) text.old text.new result }
@@ -97,67 +88,66 @@ pub fn put_head(text: &mut [u8], at: usize, kind: Record) -> usize
         Record::Empty => pen::put_word(text, at, b"()"),
         Record::Root(k) => put_root(text, at, k),
         Record::Variable(v) => put_variable(text, at, v),
-        Record::Sequence => at,
-        Record::Let(v) => put_let(text, at, v),
-        Record::For(v) => put_for(text, at, v),
+        Record::Let(v) => put_binding(text, at, b"let ", v, b" := "),
+        Record::For(v) => put_binding(text, at, b"for ", v, b" in "),
         Record::If => pen::put_word(text, at, b"if ("),
-        Record::Apply(_) => at,
         Record::Count => pen::put_word(text, at, b"count("),
         Record::Data => pen::put_word(text, at, b"data("),
-        Record::Step(_, _) => at,
+        Record::Sequence | Record::Apply(_) | Record::Step(_, _) => at,
     }
 }
 
 // The word of a function, a space before it and one after it.
-fn put_function(text: &mut [u8], at: usize, f: Function) -> usize
-    requires { at + 6 < 2 ^ 64 }
-    ensures { Pens at (spaced (function_word f)) text.old text.new result }
+fn function_text(f: Function) -> &'static [u8]
+    ensures says { result.now ≡ spaced (function_word f) }
+    ensures few { length result.now ≤ 6 }
 {
     match f {
-        Function::Add => pen::put_word(text, at, b" + "),
-        Function::Subtract => pen::put_word(text, at, b" - "),
-        Function::Multiply => pen::put_word(text, at, b" * "),
-        Function::Divide => pen::put_word(text, at, b" idiv "),
-        Function::Equal => pen::put_word(text, at, b" eq "),
-        Function::Less => pen::put_word(text, at, b" lt "),
+        Function::Add => b" + ",
+        Function::Subtract => b" - ",
+        Function::Multiply => b" * ",
+        Function::Divide => b" idiv ",
+        Function::Equal => b" eq ",
+        Function::Less => b" lt ",
     }
 }
 
 // What stands between the two operands of a record.
+#[tactic(auto, unfolding(crate::specs::Phrases::between_of, query_records::specs::Decoded::record_of))]
+fn between(kind: Record) -> &'static [u8]
+    ensures says { result.now ≡ between_of (record_of kind) }
+    ensures few { length result.now ≤ 8 }
+{
+    match kind {
+        Record::Sequence => b", ",
+        Record::Let(_) | Record::For(_) => b" return ",
+        Record::Apply(f) => function_text(f),
+        _ => b"",
+    }
+}
+
+// Puts it there.
 pub fn put_between(text: &mut [u8], at: usize, kind: Record) -> usize
     requires { at + 64 < 2 ^ 64 }
     ensures { Pens at (between_of (record_of kind)) text.old text.new result }
 {
-    match kind {
-        Record::Literal(_) => at,
-        Record::Empty => at,
-        Record::Root(_) => at,
-        Record::Variable(_) => at,
-        Record::Sequence => pen::put_word(text, at, b", "),
-        Record::Let(_) => pen::put_word(text, at, b" return "),
-        Record::For(_) => pen::put_word(text, at, b" return "),
-        Record::If => at,
-        Record::Apply(f) => put_function(text, at, f),
-        Record::Count => at,
-        Record::Data => at,
-        Record::Step(_, _) => at,
-    }
+    pen::put_word(text, at, between(kind))
 }
 
 // The name of an axis.
-fn put_axis(text: &mut [u8], at: usize, axis: Axis) -> usize
-    requires { at + 18 < 2 ^ 64 }
-    ensures { Pens at (axis_word axis).bytes text.old text.new result }
+fn axis_name(axis: Axis) -> &'static [u8]
+    ensures says { result.now ≡ (axis_word axis).bytes }
+    ensures few { length result.now ≤ 18 }
 {
     match axis {
-        Axis::Child => pen::put_word(text, at, b"child"),
-        Axis::Descendant => pen::put_word(text, at, b"descendant"),
-        Axis::DescendantOrSelf => pen::put_word(text, at, b"descendant-or-self"),
-        Axis::Itself => pen::put_word(text, at, b"self"),
-        Axis::Parent => pen::put_word(text, at, b"parent"),
-        Axis::Ancestor => pen::put_word(text, at, b"ancestor"),
-        Axis::Following => pen::put_word(text, at, b"following"),
-        Axis::Preceding => pen::put_word(text, at, b"preceding"),
+        Axis::Child => b"child",
+        Axis::Descendant => b"descendant",
+        Axis::DescendantOrSelf => b"descendant-or-self",
+        Axis::Itself => b"self",
+        Axis::Parent => b"parent",
+        Axis::Ancestor => b"ancestor",
+        Axis::Following => b"following",
+        Axis::Preceding => b"preceding",
     }
 }
 
@@ -171,6 +161,7 @@ fn put_name(text: &mut [u8], at: usize, n: usize) -> usize
 }
 
 // A test.
+#[tactic(auto, unfolding(grammar::specs::Written::test_text))]
 fn put_test(text: &mut [u8], at: usize, test: Test) -> usize
     requires { at + 21 < 2 ^ 64 }
     ensures { Pens at (test_text test) text.old text.new result }
@@ -189,50 +180,47 @@ fn put_step(text: &mut [u8], at: usize, axis: Axis, test: Test) -> usize
     ensures { Pens at (step_text axis test) text.old text.new result }
 {
     let a = pen::put(text, at, b'/');
-    let b = put_axis(text, a, axis);
+    let b = pen::put_word(text, a, axis_name(axis));
     let c = pen::put_word(text, b, b"::");
     put_test(text, c, test)
 }
 
 // What stands after the operands of a record.
+#[tactic(auto, unfolding(crate::specs::Phrases::tail_of, query_records::specs::Decoded::record_of))]
 pub fn put_tail(text: &mut [u8], at: usize, kind: Record) -> usize
     requires { at + 64 < 2 ^ 64 }
     ensures { Pens at (tail_of (record_of kind)) text.old text.new result }
 {
     match kind {
-        Record::Literal(_) => at,
-        Record::Empty => at,
-        Record::Root(_) => at,
-        Record::Variable(_) => at,
-        Record::Sequence => at,
-        Record::Let(_) => at,
-        Record::For(_) => at,
-        Record::If => at,
-        Record::Apply(_) => at,
-        Record::Count => pen::put(text, at, b')'),
-        Record::Data => pen::put(text, at, b')'),
+        Record::Count | Record::Data => pen::put(text, at, b')'),
         Record::Step(axis, test) => put_step(text, at, axis, test),
+        _ => at,
     }
 }
 
 // `(` where the text is grouped.
+// As it is: (d) one function for `(` and `)` would take the byte, and say less where it is called.
+#[tactic(auto, using(pen::proofs::Putting::pens_none))]
 pub fn put_open(text: &mut [u8], at: usize, grouped: bool) -> usize
     requires { at + 1 < 2 ^ 64 }
     ensures { Pens at (opening grouped) text.old text.new result }
 {
     if grouped {
-        return pen::put(text, at, b'(');
+        pen::put(text, at, b'(')
+    } else {
+        at
     }
-    at
 }
 
 // `)` where the text is grouped.
+#[tactic(auto, using(pen::proofs::Putting::pens_none))]
 pub fn put_close(text: &mut [u8], at: usize, grouped: bool) -> usize
     requires { at + 1 < 2 ^ 64 }
     ensures { Pens at (closing grouped) text.old text.new result }
 {
     if grouped {
-        return pen::put(text, at, b')');
+        pen::put(text, at, b')')
+    } else {
+        at
     }
-    at
 }

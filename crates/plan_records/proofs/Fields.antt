@@ -15,7 +15,8 @@ use Rattle.meaning.specs.Query.{fragment_of}
 use Rattle.codes.specs.Codes.{function_of}
 use Rattle.meaning.specs.Plan.{Op, sized, field, attach_at, project_at, number_at, function_at, step_at}
 use Rattle.meaning.specs.Plan.{operator_of, operator_at}
-use Rattle.meaning.specs.Plan.{mark_rt, mark_ra, mark_rp, mark_ru, mark_rd, mark_rs, mark_rj, mark_rn, mark_rf, mark_rc, mark_re}
+use Rattle.meaning.specs.Plan.{mark_rt, mark_ra, mark_rp, mark_ru, mark_rd, mark_rs, mark_rj, mark_rn, mark_rf}
+use Rattle.meaning.specs.Plan.{mark_rc, mark_re}
 use Rattle.meaning.specs.Plan.{mark_rk, mark_rx, mark_ro}
 use Rattle.theorems.specs.PlanFields.{Own}
 use Rattle.laws.proofs.Booleans.{both_true}

@@ -2,12 +2,14 @@
 --     one, attach, project, union, minus, select, join, number, function, counts, truths, once, step, root
 --                            the record at an offset, taken for RT, RA, RP, RU, RD, RS, RJ, RN, RF, RC, RE, RK, RX, RO
 --     value, apply           RF with function 7, and with one of the others
+--     two_tables, column     the two tables of RU and RD; the table and the column of RS, RC and RK
 use Rattle.std.specs.Prelude.{ℕ, ◌+◌, List}
-use Rattle.cells.specs.Bytes.{int8}
-use Rattle.laws.specs.Attempt.{Attempt, gives, attempt}
+use Rattle.cells.specs.Bytes.{int8, fits}
+use Rattle.laws.specs.Attempt.{Attempt, gives, attempt, provided}
 use Rattle.meaning.specs.Query.{fragment_of}
 use Rattle.codes.specs.Codes.{function_of}
-use Rattle.meaning.specs.Plan.{Op, RT, RU, RD, RS, RJ, RF, RV, RC, RE, RK, RO, sized, field, table, attach_at, project_at}
+use Rattle.meaning.specs.Plan.{Op, RT, RU, RD, RS, RJ, RF, RV, RC, RE, RK, RO, sized, field, table, attach_at}
+use Rattle.meaning.specs.Plan.{project_at}
 use Rattle.meaning.specs.Plan.{number_at, function_at, step_at}
 
 unfoldable pub one : List ℕ → ℕ → Attempt (Op × ℕ)
@@ -59,3 +61,9 @@ step bs at = sized bs at 8 (step_at bs at)
 
 unfoldable pub root : List ℕ → ℕ → Attempt (Op × ℕ)
 root bs at = sized bs at 5 (attempt (fragment_of (field bs at 4)) (λ k. gives (RO (table bs at 2) k)))
+
+unfoldable pub two_tables : List ℕ → ℕ → Attempt (ℕ × ℕ)
+two_tables bs at = provided (fits bs at 6) (gives (table bs at 2, table bs at 4))
+
+unfoldable pub column : List ℕ → ℕ → Attempt (ℕ × ℕ)
+column bs at = provided (fits bs at 5) (gives (table bs at 2, field bs at 4))

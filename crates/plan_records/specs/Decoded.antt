@@ -1,16 +1,15 @@
 -- What the answers of the code stand for in document 01 ('Plan operators', 'The eight refusals').
---     operator_of bs o     an operator of the code as one of the definitions; its columns and keys stand in the bytes bs
+--     operator_of bs o    an operator of the code as one of the definitions; its columns and keys stand in the bytes
 --     reading_of bs r      what reading at an offset found: the operator and the offset after it, or failing
 --     ColumnsStand bs o   the columns of Project and the keys of Number stand within the bytes
 --     ReadingStands bs r   the same of what reading found
+--     pair_field f        two numbers that stand in fields, or failing
 --     Means bs r a        what reading found is the attempt a of the definitions, and its columns are within the bytes
-use Rattle.std.specs.Prelude.{ℕ, ◌+◌, ◌≤◌, ◌≡◌, List, length}
-use Rattle.laws.specs.Attempt.{Attempt, fails, gives}
+use Rattle.std.specs.Prelude.{ℕ, ◌+◌, ◌≤◌, ◌≡◌, List, length, Option, Some, None}
+use Rattle.laws.specs.Attempt.{Attempt, fails, gives, tried}
 use Rattle.meaning.specs.Plan.{Op, RT, RA, RP, RU, RD, RS, RJ, RN, RF, RV, RC, RE, RK, RX, RO, columns_at}
+use Rattle.plan_records.specs.declared.Decoded.{Decoded}
 use Rattle.plan_records.specs.declared.Operator.{Operator}
-use Rattle.plan_records.specs.declared.Operator.TheVariants as Operator
-use Rattle.plan_records.specs.declared.Reading.{Reading}
-use Rattle.plan_records.specs.declared.Reading.TheVariants as Reading
 
 unfoldable pub operator_of : List ℕ → Operator → Op
 operator_of bs Operator.One = RT
@@ -29,9 +28,9 @@ operator_of bs (Operator.Once t c) = RK t c
 operator_of bs (Operator.Step t x y) = RX t x y
 operator_of bs (Operator.Root t k) = RO t k
 
-unfoldable pub reading_of : List ℕ → Reading → Attempt (Op × ℕ)
-reading_of bs (Reading.Sound d) = gives (operator_of bs d.operator, d.next)
-reading_of bs Reading.Unsound = fails
+unfoldable pub reading_of : List ℕ → Option Decoded → Attempt (Op × ℕ)
+reading_of bs (Some d) = gives (operator_of bs d.operator, d.next)
+reading_of bs None = fails
 
 unfoldable pub ColumnsStand : List ℕ → Operator → Type 0
 ColumnsStand bs Operator.One = Unit {0}
@@ -50,11 +49,14 @@ ColumnsStand bs (Operator.Once t c) = Unit {0}
 ColumnsStand bs (Operator.Step t x y) = Unit {0}
 ColumnsStand bs (Operator.Root t k) = Unit {0}
 
-unfoldable pub ReadingStands : List ℕ → Reading → Type 0
-ReadingStands bs (Reading.Sound d) = ColumnsStand bs d.operator
-ReadingStands bs Reading.Unsound = Unit {0}
+unfoldable pub ReadingStands : List ℕ → Option Decoded → Type 0
+ReadingStands bs (Some d) = ColumnsStand bs d.operator
+ReadingStands bs None = Unit {0}
 
 -- what reading promises
-pub record Means (bs : List ℕ) (r : Reading) (a : Attempt (Op × ℕ)) : Type 0 where
+pub record Means (bs : List ℕ) (r : Option Decoded) (a : Attempt (Op × ℕ)) : Type 0 where
   pub means : reading_of bs r ≡ a
   pub stands : ReadingStands bs r
+
+abbrev pub pair_field : Option (ℕ × ℕ) → Attempt (ℕ × ℕ)
+pair_field = tried

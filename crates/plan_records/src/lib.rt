@@ -86,34 +86,42 @@ pub struct Decoded {
     pub next: usize,
 }
 
-// What stands at an offset: an operator whose own fields are sound, or a bad mark, field or cut record.
-#[derive(Clone, Copy)]
-pub enum Reading {
-    Sound(Decoded),
-    Unsound,
-}
-
 // The operator at an offset.
-pub fn read(plan: &[u8], at: usize) -> Reading
+pub fn read(plan: &[u8], at: usize) -> Option<Decoded>
     ensures { Means plan.now result (Plan.operator_at plan.now at) }
 {
     if !fits(plan, at, 2) {
-        return Reading::Unsound;
+        return None;
     }
     let mark = word2(plan, at);
     match mark {
         marks::RT => records::one(plan, at),
         marks::RA => records::attach(plan, at),
         marks::RP => records::project(plan, at),
-        marks::RU => records::union(plan, at),
-        marks::RD => records::minus(plan, at),
-        marks::RS => records::select(plan, at),
+        marks::RU => {
+            let (t, u) = records::two_tables(plan, at)?;
+            records::sound(Operator::Union { t, u }, at + 6)
+        }
+        marks::RD => {
+            let (t, u) = records::two_tables(plan, at)?;
+            records::sound(Operator::Minus { t, u }, at + 6)
+        }
+        marks::RS => {
+            let (t, c) = records::column(plan, at)?;
+            records::sound(Operator::Select { t, c }, at + 5)
+        }
         marks::RJ => records::join(plan, at),
         marks::RN => records::number(plan, at),
         marks::RF => records::function(plan, at),
-        marks::RC => records::counts(plan, at),
+        marks::RC => {
+            let (t, c) = records::column(plan, at)?;
+            records::sound(Operator::Counts { t, c }, at + 5)
+        }
         marks::RE => records::truths(plan, at),
-        marks::RK => records::once(plan, at),
+        marks::RK => {
+            let (t, c) = records::column(plan, at)?;
+            records::sound(Operator::Once { t, c }, at + 5)
+        }
         marks::RX => records::step(plan, at),
         marks::RO => records::root(plan, at),
         0..=0x5240
@@ -122,6 +130,6 @@ pub fn read(plan: &[u8], at: usize) -> Reading
         | 0x524C..=0x524D
         | 0x5251..=0x5252
         | 0x5256..=0x5257
-        | 0x5259.. => Reading::Unsound,
+        | 0x5259.. => None,
     }
 }

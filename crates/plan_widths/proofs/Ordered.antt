@@ -2,6 +2,7 @@
 --     width_by bs ws o    by the tables that o names: both are there, o suits their widths, then the width
 --     width_by_lem           the definitions' `width_of` is that
 --     width_none, no_first, no_second, unsuited, suited     the answers of `width_of`
+use Rattle.std.specs.Prelude.{Option, Some, None}
 use Prim.Native.Nat.{ℕ, ◌+◌, ◌≤◌, ◌<◌}
 use mathlib.Core.Path.{◌≡◌, refl, sym, ◌∙◌, ap}
 use mathlib.Core.Bool.{Bool, true, false, ◌&&◌, ◌||◌}
@@ -14,16 +15,13 @@ use lib.Seq.{get_or-take}
 use Rattle.laws.specs.Attempt.{Attempt, fails, gives, attempt, provided}
 use Rattle.meaning.specs.Plan.{columns, columns_at, table_width, up_to6, width_of}
 use Rattle.plan_records.specs.declared.Operator.{Operator}
-use Rattle.plan_records.specs.declared.Operator.TheVariants as Operator
-use Rattle.plan_widths.specs.declared.TableOperands.{TableOperands}
-use Rattle.plan_widths.specs.declared.TableOperands.TheVariants.{None, Of}
 use Rattle.plan_records.specs.Decoded.{operator_of, ColumnsStand}
 use Rattle.plan_widths.specs.Widths.{tables_of, suitable, made_width}
 use Rattle.plan_records.proofs.Columns.{columns_length}
 
-unfoldable pub width_by : List ℕ → List ℕ → Operator → TableOperands → Attempt ℕ
+unfoldable pub width_by : List ℕ → List ℕ → Operator → Option (ℕ × ℕ) → Attempt ℕ
 width_by bs ws o None = gives 1
-width_by bs ws o (Of t u) =
+width_by bs ws o (Some (t, u)) =
     attempt (table_width ws t)
     (λ w. attempt (table_width ws u) (λ v. provided (suitable (operator_of bs o) w v) (gives (made_width o w v))))
 
@@ -49,7 +47,8 @@ two (gives w) fails f g h = refl
 two (gives w) (gives v) f g h = h w v
 
 pub width_by_lem :
-    (bs ws : List ℕ) (o : Operator) → ColumnsStand bs o → width_of ws (operator_of bs o) ≡ width_by bs ws o (tables_of o)
+    (bs ws : List ℕ) (o : Operator) → ColumnsStand bs o →
+    width_of ws (operator_of bs o) ≡ width_by bs ws o (tables_of o)
 unfolding width_of operator_of width_by tables_of suitable made_width up_to6 ColumnsStand
 width_by_lem bs ws Operator.One s = refl
 width_by_lem bs ws (Operator.Attach t z) s = one (table_width ws t) _ _ (λ w. refl)
@@ -92,24 +91,24 @@ module _ (ws : List ℕ) (n t : ℕ) (h : n ≤ length ws) where
 
 module _
     (bs ws : List ℕ) (n : ℕ) (h : n ≤ length ws) (o : Operator) (s : ColumnsStand bs o)
-    (x : TableOperands) (e : x ≡ tables_of o) where
-  by : (y : TableOperands) → x ≡ y → width_by bs (take n ws) o y ≡ width_of (take n ws) (operator_of bs o)
+    (x : Option (ℕ × ℕ)) (e : x ≡ tables_of o) where
+  by : (y : Option (ℕ × ℕ)) → x ≡ y → width_by bs (take n ws) o y ≡ width_of (take n ws) (operator_of bs o)
   by y p = ap (width_by bs (take n ws) o) (sym p ∙ e) ∙ sym (width_by_lem bs (take n ws) o s)
 
   pub width_none : x ≡ None → gives 1 ≡ width_of (take n ws) (operator_of bs o)
   unfolding width_by
   width_none p = by None p
 
-  module _ (t u : ℕ) (p : x ≡ Of t u) where
+  module _ (t u : ℕ) (p : x ≡ Some (t, u)) where
     pub no_first : n ≤ t → fails ≡ width_of (take n ws) (operator_of bs o)
     unfolding width_by attempt
-    no_first k = rw (past ws n t h k) at (by (Of t u) p)
+    no_first k = rw (past ws n t h k) at (by (Some (t, u)) p)
 
     pub no_second : (n ≤ t → ⊥) → n ≤ u → fails ≡ width_of (take n ws) (operator_of bs o)
     unfolding width_by attempt
     no_second l k =
         let z : t < n = omega arith in
-        rw (there ws n t h z, past ws n u h k) at (by (Of t u) p)
+        rw (there ws n t h z, past ws n u h k) at (by (Some (t, u)) p)
 
     module _
         (l : n ≤ t → ⊥) (k : n ≤ u → ⊥) (w v : ℕ) (i : w ≡ get_or ws t 0) (j : v ≡ get_or ws u 0)
@@ -120,7 +119,7 @@ module _
       both_there =
           let y : t < n = omega arith in
           let z : u < n = omega arith in
-          rw (there ws n t h y, there ws n u h z, ← i, ← j, ← f) at (by (Of t u) p)
+          rw (there ws n t h y, there ws n u h z, ← i, ← j, ← f) at (by (Some (t, u)) p)
 
       pub unsuited : b ≡ false → fails ≡ width_of (take n ws) (operator_of bs o)
       unfolding provided

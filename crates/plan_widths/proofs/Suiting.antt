@@ -9,7 +9,6 @@ use lib.Dec.{eqb, ltb, leb}
 use lib.ListN.{length}
 use Rattle.meaning.specs.Plan.{columns, columns_at}
 use Rattle.plan_records.specs.declared.Operator.{Operator}
-use Rattle.plan_records.specs.declared.Operator.TheVariants as Operator
 use Rattle.plan_records.specs.Decoded.{operator_of, ColumnsStand}
 use Rattle.plan_widths.specs.Widths.{suitable}
 use Rattle.plan_records.proofs.Columns.{columns_length}

@@ -3,32 +3,27 @@
 --     suitable o w v     operator o suits tables of widths w and v
 --     made_width o w v    the width of the table that an operator of the code then makes
 --     width_field r       a width, or failing
-use Rattle.std.specs.Prelude.{ℕ, ◌+◌, Bool, true, ◌&&◌, ◌||◌, eqb, ltb, leb, length}
-use Rattle.laws.specs.Attempt.{Attempt, fails, gives}
+use Rattle.std.specs.Prelude.{ℕ, ◌+◌, Bool, true, ◌&&◌, ◌||◌, eqb, ltb, leb, length, Option, Some, None}
+use Rattle.laws.specs.Attempt.{Attempt, tried}
 use Rattle.meaning.specs.Plan.{Op, RT, RA, RP, RU, RD, RS, RJ, RN, RF, RV, RC, RE, RK, RX, RO, columns}
 use Rattle.plan_records.specs.declared.Operator.{Operator}
-use Rattle.plan_records.specs.declared.Operator.TheVariants as Operator
-use Rattle.plan_widths.specs.declared.TableOperands.{TableOperands}
-use Rattle.plan_widths.specs.declared.TableOperands.TheVariants.{None, Of}
-use Rattle.plan_widths.specs.declared.Width.{Width}
-use Rattle.plan_widths.specs.declared.Width.TheVariants.{Is, Unsound}
 
-unfoldable pub tables_of : Operator → TableOperands
+unfoldable pub tables_of : Operator → Option (ℕ × ℕ)
 tables_of Operator.One = None
-tables_of (Operator.Attach t z) = Of t t
-tables_of (Operator.Project t n from) = Of t t
-tables_of (Operator.Union t u) = Of t u
-tables_of (Operator.Minus t u) = Of t u
-tables_of (Operator.Select t c) = Of t t
-tables_of (Operator.Join t c u d) = Of t u
-tables_of (Operator.Number t p n from) = Of t t
-tables_of (Operator.Apply t f c d) = Of t t
-tables_of (Operator.Value t c) = Of t t
-tables_of (Operator.Counts t c) = Of t t
-tables_of (Operator.Truths t) = Of t t
-tables_of (Operator.Once t c) = Of t t
-tables_of (Operator.Step t x y) = Of t t
-tables_of (Operator.Root t k) = Of t t
+tables_of (Operator.Attach t z) = Some (t, t)
+tables_of (Operator.Project t n from) = Some (t, t)
+tables_of (Operator.Union t u) = Some (t, u)
+tables_of (Operator.Minus t u) = Some (t, u)
+tables_of (Operator.Select t c) = Some (t, t)
+tables_of (Operator.Join t c u d) = Some (t, u)
+tables_of (Operator.Number t p n from) = Some (t, t)
+tables_of (Operator.Apply t f c d) = Some (t, t)
+tables_of (Operator.Value t c) = Some (t, t)
+tables_of (Operator.Counts t c) = Some (t, t)
+tables_of (Operator.Truths t) = Some (t, t)
+tables_of (Operator.Once t c) = Some (t, t)
+tables_of (Operator.Step t x y) = Some (t, t)
+tables_of (Operator.Root t k) = Some (t, t)
 
 unfoldable pub suitable : Op → ℕ → ℕ → Bool
 suitable RT w v = true
@@ -64,6 +59,5 @@ made_width (Operator.Once t c) w v = w
 made_width (Operator.Step t x y) w v = 2
 made_width (Operator.Root t k) w v = w + 1
 
-abbrev pub width_field : Width → Attempt ℕ
-width_field (Is w) = gives w
-width_field Unsound = fails
+abbrev pub width_field : Option ℕ → Attempt ℕ
+width_field = tried

@@ -8,7 +8,8 @@
 --     ahead_width                    every table so far is 1 to 6 wide
 --     no_table, fitting, turn_fitting     its tables, widths and fields
 --     keys_one, keys_two             RN's keys as they stand in the bytes
-use Prim.Native.Nat.{ℕ, zero, suc, ◌+◌, ◌-◌, ◌≤◌, ◌<◌}
+use Rattle.std.specs.Prelude.{Option, Some, None, Result, Ok, Err}
+use Prim.Native.Nat.{ℕ, zero, suc, ◌+◌, ◌≤◌, ◌<◌}
 use mathlib.Core.Path.{◌≡◌, refl, sym, ◌∙◌, ap, subst}
 use mathlib.Core.Bool.{Bool, true, false}
 use mathlib.Core.List.{List, [], ◌∷◌, ◌++◌, append-nil, append_assoc, append_cancel_left}
@@ -19,6 +20,8 @@ use lib.Dec.{eqb, ltb, leb}
 use lib.ListN.{length, get_or}
 use lib.Seq.{drop-cons}
 use Rattle.cells.specs.Bytes.{byte_at, Bytes}
+use Rattle.codes.specs.Refusals.{number_of}
+use Rattle.codes.specs.declared.refusals.Refusal.{Refusal}
 use Rattle.laws.specs.Attempt.{Attempt, fails, gives, Reading, refuses, reads, reading, refusing}
 use Rattle.laws.specs.Attempt.{unless}
 use Rattle.meaning.specs.Plan.{Placed, columns_at, table_width, width_of, operator_at, placed_at, last_of, ended}
@@ -29,13 +32,7 @@ use Rattle.theorems.specs.PlanWidths.{Every}
 use Rattle.theorems.proofs.PlanWidths.{attempt_gives, provided_gives}
 use Rattle.laws.proofs.Booleans.{both_true}
 use Rattle.plan_records.specs.declared.Operator.{Operator}
-use Rattle.plan_records.specs.declared.Operator.TheVariants as Operator
 use Rattle.plan_records.specs.declared.Decoded.{Decoded}
-use Rattle.plan_records.specs.declared.Reading.{Reading as Read}
-use Rattle.plan_records.specs.declared.Reading.TheVariants as Read
-use Rattle.plans.specs.declared.Checked.{Checked}
-use Rattle.plans.specs.declared.Checked.TheVariants.{Operators, Unsound}
-use Rattle.plan_widths.specs.declared.TableOperands.TheVariants.{None, Of}
 use Rattle.plan_records.specs.Decoded.{operator_of, ColumnsStand, Means}
 use Rattle.plan_widths.specs.Widths.{tables_of, suitable, made_width}
 use Rattle.plans.specs.Walk.{checked, plan_count}
@@ -50,8 +47,8 @@ use Rattle.plans.proofs.Ending.{unread, found, found_stands, last_each}
 
 -- The plan check
 
-module _ (bs : List ℕ) (c : Checked) (e : checked c ≡ plan_count bs) where
-  pub check_reads : (n : ℕ) → c ≡ Operators n → (ps : List Placed) × (plan_read bs ≡ reads ps) × (length ps ≡ n)
+module _ (bs : List ℕ) (c : Result ℕ Refusal) (e : checked c ≡ plan_count bs) where
+  pub check_reads : (n : ℕ) → c ≡ Ok n → (ps : List Placed) × (plan_read bs ≡ reads ps) × (length ps ≡ n)
   unfolding checked plan_count reading
   check_reads n h = go (plan_read bs) refl (sym (ap checked h) ∙ e)
     where
@@ -61,15 +58,16 @@ module _ (bs : List ℕ) (c : Checked) (e : checked c ≡ plan_count bs) where
       go (refuses k p) q s = absurd (refuses_reads k p n (sym s))
       go (reads ps) q s = (ps, q, sym (reads_same s))
 
-  pub check_refuses : (p : ℕ) → c ≡ Unsound p → plan_read bs ≡ refuses 5 p
+  pub check_refuses : (r : Refusal) → c ≡ Err r → plan_read bs ≡ refuses (number_of r.reason) r.place
   unfolding checked plan_count reading
-  check_refuses p h = go (plan_read bs) refl (sym (ap checked h) ∙ e)
+  check_refuses r h = go (plan_read bs) refl (sym (ap checked h) ∙ e)
     where
       go :
-          (a : Reading (List Placed)) → plan_read bs ≡ a → refuses 5 p ≡ reading a (λ ps. reads (length ps)) →
-          plan_read bs ≡ refuses 5 p
-      go (refuses k q) r s = cc
-      go (reads ps) r s = absurd (refuses_reads 5 p (length ps) s)
+          (a : Reading (List Placed)) → plan_read bs ≡ a →
+          refuses (number_of r.reason) r.place ≡ reading a (λ ps. reads (length ps)) →
+          plan_read bs ≡ refuses (number_of r.reason) r.place
+      go (refuses k q) z s = cc
+      go (reads ps) z s = absurd (refuses_reads (number_of r.reason) r.place (length ps) s)
 
 -- What is read from an offset on: those done, then others; at most so many; the last of width 3
 
@@ -198,14 +196,14 @@ module _ {bs : List ℕ} {done rest : List Placed} {at : ℕ} (k : Ahead bs done
             (sym (walk_excess bs done at k.walk h (leb-true 512 (length done) q)) ∙ k.whole))
         go false q = leb-false 512 (length done) q
 
-    module _ {r : Read} (m : Means bs r (operator_at bs at)) where
-      pub ahead_unread : r ≡ Read.Unsound → ⊥
+    module _ {r : Option Decoded} (m : Means bs r (operator_at bs at)) where
+      pub ahead_unread : r ≡ None → ⊥
       ahead_unread q =
           refuses_reads 5 at (done ++ rest)
           (sym (walk_bad bs done at k.walk h ahead_few (unplaced bs (widths_of done) at (unread bs at r m q)))
           ∙ k.whole)
 
-      module _ (b : Bytes bs) (f : Decoded) (q : r ≡ Read.Sound f) where
+      module _ (b : Bytes bs) (f : Decoded) (q : r ≡ Some f) where
         reads_op : operator_at bs at ≡ gives (operator_of bs f.operator, f.next)
         reads_op = found bs at r m f q
 
@@ -294,10 +292,11 @@ suited_all bs (Operator.Root t i) w v s k e = (leb-true (w + 1) 6 e, k.0, k.1)
 
 pub fitting :
     (bs ws : List ℕ) (o : Operator) (x : ℕ) → ColumnsStand bs o → Own (operator_of bs o) →
-    width_of ws (operator_of bs o) ≡ gives x → (t u : ℕ) → tables_of o ≡ Of t u → Fitting bs ws o t u x
+    width_of ws (operator_of bs o) ≡ gives x → (t u : ℕ) → tables_of o ≡ Some (t, u) → Fitting bs ws o t u x
 unfolding width_by
 fitting bs ws o x s k e t u q =
-    let g : width_by bs ws o (Of t u) ≡ gives x = sym (ap (width_by bs ws o) q) ∙ sym (width_by_lem bs ws o s) ∙ e in
+    let g : width_by bs ws o (Some (t, u)) ≡ gives x =
+    sym (ap (width_by bs ws o) q) ∙ sym (width_by_lem bs ws o s) ∙ e in
     let (w, i, j) = attempt_gives (table_width ws t) _ x g in
     let (v, l, m) = attempt_gives (table_width ws u) _ x j in
     let (a, b) = provided_gives (suitable (operator_of bs o) w v) (gives (made_width o w v)) x m in
@@ -312,7 +311,7 @@ fitting bs ws o x s k e t u q =
 
 pub turn_fitting :
     {bs : List ℕ} {done rest : List Placed} {at : ℕ} {f : Decoded} (k : Turn bs done rest at f) (t u : ℕ) →
-    tables_of f.operator ≡ Of t u → Fitting bs (widths_of done) f.operator t u k.width
+    tables_of f.operator ≡ Some (t, u) → Fitting bs (widths_of done) f.operator t u k.width
 turn_fitting {bs} {done} {rest} {at} {f} k =
     fitting bs (widths_of done) f.operator k.width k.stands k.own k.fits
 

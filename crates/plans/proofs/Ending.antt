@@ -4,6 +4,7 @@
 --     checking_excess, checking_unread, checking_unfit      refusal 5 at the operator at hand
 --     checking_small, checking_on     a sound operator: its width is small, and the check goes on behind it
 --     checking_none, checking_three, checking_other         the end of the bytes: none; the last of width 3, or not
+use Rattle.std.specs.Prelude.{Option, Some, None, Result, Ok, Err}
 use Prim.Native.Nat.{ℕ, ◌+◌, ◌-◌, ◌≤◌, ◌<◌}
 use mathlib.Core.Path.{◌≡◌, refl, sym, ◌∙◌, ap}
 use mathlib.Core.List.{List, [], ◌∷◌, ◌++◌}
@@ -14,16 +15,14 @@ use borrow.Author.Tests.{ne_eqb}
 use lib.Dec.{eqb}
 use lib.ListN.{length, get_or, take, set, length-append, length-set}
 use lib.Seq.{take-suc-set, get_or-take}
+use Rattle.codes.specs.Refusals.{refusal}
+use Rattle.codes.specs.declared.refusals.Reason.TheVariants as Reason
+use Rattle.codes.specs.declared.refusals.Refusal.{Refusal}
 use Rattle.laws.specs.Attempt.{fails, gives, refuses, reads, reading, unless}
 use Rattle.meaning.specs.Plan.{Op, Placed, operator_at, width_of, last_of, ended, plan_read}
 use Rattle.theorems.specs.PlanFields.{WidthFits}
 use Rattle.theorems.specs.PlanWidths.{Every}
 use Rattle.plan_records.specs.declared.Decoded.{Decoded}
-use Rattle.plan_records.specs.declared.Reading.{Reading as Read}
-use Rattle.plan_records.specs.declared.Reading.TheVariants as Read
-use Rattle.plans.specs.declared.Checked.TheVariants.{Operators, Unsound}
-use Rattle.plan_widths.specs.declared.Width.{Width as Found}
-use Rattle.plan_widths.specs.declared.Width.TheVariants as Found
 use Rattle.plan_records.specs.Decoded.{operator_of, reading_of, ColumnsStand, ReadingStands, Means}
 use Rattle.plan_widths.specs.Widths.{width_field}
 use Rattle.plans.specs.Walk.{checked, plan_count, last_at, Walk, Checking}
@@ -37,18 +36,22 @@ unfolding last_at
 checking_start bs ws h =
     record { done = []; walk = walk_start bs; count = refl; long = h; widths = refl; latest = refl }
 
-refused_at_lem : (bs : List ℕ) (p : ℕ) → plan_read bs ≡ refuses 5 p → checked (Unsound p) ≡ plan_count bs
+-- refusal 5, at a place
+abbrev pub unsound : ℕ → Result ℕ Refusal
+unsound p = Err (refusal Reason.Plan p)
+
+refused_at_lem : (bs : List ℕ) (p : ℕ) → plan_read bs ≡ refuses 5 p → checked (unsound p) ≡ plan_count bs
 unfolding checked plan_count reading
 refused_at_lem bs p e = rw e
 
 -- What reading found
 
-module _ (bs : List ℕ) (at : ℕ) (r : Read) (m : Means bs r (operator_at bs at)) where
-  pub unread : r ≡ Read.Unsound → operator_at bs at ≡ fails
+module _ (bs : List ℕ) (at : ℕ) (r : Option Decoded) (m : Means bs r (operator_at bs at)) where
+  pub unread : r ≡ None → operator_at bs at ≡ fails
   unfolding reading_of
   unread h = sym m.means ∙ ap (reading_of bs) h
 
-  module _ (f : Decoded) (h : r ≡ Read.Sound f) where
+  module _ (f : Decoded) (h : r ≡ Some f) where
     pub found : operator_at bs at ≡ gives (operator_of bs f.operator, f.next)
     unfolding reading_of
     found = sym m.means ∙ ap (reading_of bs) h
@@ -72,30 +75,30 @@ module _ {bs ws : List ℕ} {at n last : ℕ} (k : Checking bs ws at n last) whe
   checking_place z = omega (arith, z, checking_room, k.long)
 
   module _ (h : at < length bs) where
-    pub checking_excess : n ≡ 512 → checked (Unsound at) ≡ plan_count bs
+    pub checking_excess : n ≡ 512 → checked (unsound at) ≡ plan_count bs
     checking_excess e = refused_at_lem bs at (walk_excess bs k.done at k.walk h (omega (arith, k.count)))
 
     module _ (z : n ≡ 512 → ⊥) where
       more : length k.done < 512
       more = omega (arith, z, k.count, k.walk.few)
 
-      pub checking_unread : operator_at bs at ≡ fails → checked (Unsound at) ≡ plan_count bs
+      pub checking_unread : operator_at bs at ≡ fails → checked (unsound at) ≡ plan_count bs
       checking_unread e =
           refused_at_lem bs at (walk_bad bs k.done at k.walk h more (unplaced bs (widths_of k.done) at e))
 
       module _
-          (o : Op) (next : ℕ) (p : operator_at bs at ≡ gives (o, next)) (x : Found)
+          (o : Op) (next : ℕ) (p : operator_at bs at ≡ gives (o, next)) (x : Option ℕ)
           (i : width_field x ≡ width_of (take n ws) o) where
         here : width_field x ≡ width_of (widths_of k.done) o
         here = i ∙ ap (λ (us : List ℕ). width_of us o) (sym k.widths)
 
-        pub checking_unfit : x ≡ Found.Unsound → checked (Unsound at) ≡ plan_count bs
+        pub checking_unfit : x ≡ None → checked (unsound at) ≡ plan_count bs
         checking_unfit q =
             refused_at_lem bs at
             (walk_bad bs k.done at k.walk h more
             (misplaced bs (widths_of k.done) at next o p (sym here ∙ ap width_field q)))
 
-        module _ (b : Bytes bs) (w : ℕ) (q : x ≡ Found.Is w) where
+        module _ (b : Bytes bs) (w : ℕ) (q : x ≡ Some w) where
           abbrev placed : Placed
           placed = record { at = at; op = o; width = w }
 
@@ -152,7 +155,7 @@ module _ {bs ws : List ℕ} {at n last : ℕ} (k : Checking bs ws at n last) (h 
   nothing [] e = refl
   nothing (p ∷ ps) e = absurd (omega arith)
 
-  pub checking_none : n ≡ 0 → checked (Unsound 0) ≡ plan_count bs
+  pub checking_none : n ≡ 0 → checked (unsound 0) ≡ plan_count bs
   checking_none e = refused_at_lem bs 0 (whole ∙ nothing k.done (k.count ∙ e))
 
   module _ (z : n ≡ 0 → ⊥) where
@@ -161,12 +164,12 @@ module _ {bs ws : List ℕ} {at n last : ℕ} (k : Checking bs ws at n last) (h 
         let l : n - 1 < n = omega (arith, z) in
         ap (λ (us : List ℕ). get_or us (n - 1) 0) k.widths ∙ get_or-take n ws (n - 1) 0 l
 
-    pub checking_three : get_or ws (n - 1) 0 ≡ 3 → checked (Operators n) ≡ plan_count bs
+    pub checking_three : get_or ws (n - 1) 0 ≡ 3 → checked (Ok n) ≡ plan_count bs
     unfolding checked plan_count reading
     checking_three e =
         rw (whole ∙ ended_three k.done n k.count z (final ∙ e)) (ap reads (sym k.count))
 
-    pub checking_other : (get_or ws (n - 1) 0 ≡ 3 → ⊥) → checked (Unsound last) ≡ plan_count bs
+    pub checking_other : (get_or ws (n - 1) 0 ≡ 3 → ⊥) → checked (unsound last) ≡ plan_count bs
     checking_other e =
         refused_at_lem bs last
         (whole ∙ ended_other k.done n k.count z (λ q. e (sym final ∙ q)) ∙ ap (refuses 5) k.latest)

@@ -11,7 +11,6 @@ use Rattle.codes.specs.Codes.{test_name}
 use Rattle.meaning.specs.Plan.{Placed, plain_in, columns_at, columns, width_of, plan_read}
 use Rattle.theorems.specs.PlanFields.{Own, WidthFits}
 use Rattle.plan_records.specs.declared.Operator.{Operator}
-use Rattle.plan_records.specs.declared.Operator.TheVariants as Operator
 use Rattle.plan_records.specs.declared.Decoded.{Decoded}
 use Rattle.plan_records.specs.Decoded.{operator_of, ColumnsStand}
 use Rattle.plan_widths.specs.Widths.{made_width}

@@ -4,18 +4,18 @@
 --     last_at ps          the offset of the last of operators ps, 0 where there is none
 --     Walk bs done at    the operators `done` stand before at, and what is left of the bytes gives what the whole gives
 --     Checking ..        the same, with the state of the plan check: n widths in ws, the last operator at `last`
-use Rattle.std.specs.Prelude.{ℕ, ◌-◌, ◌≤◌, ◌≡◌, List, [], ◌∷◌, length, take}
+use Rattle.std.specs.Prelude.{ℕ, ◌-◌, ◌≤◌, ◌≡◌, List, [], ◌∷◌, length, take, Result, Ok, Err}
+use Rattle.codes.specs.Refusals.{number_of}
+use Rattle.codes.specs.declared.refusals.Refusal.{Refusal}
 use Rattle.laws.specs.Attempt.{Reading, refuses, reads, reading}
 use Rattle.meaning.specs.Plan.{Placed, last_of, plan_from, plan_read}
 use Rattle.theorems.specs.PlanFields.{WidthFits}
 use Rattle.theorems.specs.PlanRead.{widths_of}
 use Rattle.theorems.specs.PlanWidths.{Every}
-use Rattle.plans.specs.declared.Checked.{Checked}
-use Rattle.plans.specs.declared.Checked.TheVariants.{Operators, Unsound}
 
-unfoldable pub checked : Checked → Reading ℕ
-checked (Operators n) = reads n
-checked (Unsound p) = refuses 5 p
+unfoldable pub checked : Result ℕ Refusal → Reading ℕ
+checked (Ok n) = reads n
+checked (Err r) = refuses (number_of r.reason) r.place
 
 unfoldable pub plan_count : List ℕ → Reading ℕ
 plan_count bs = reading (plan_read bs) (λ ps. reads (length ps))

@@ -2,39 +2,47 @@
 #![tactic(auto)]
 
 ghost use Rattle.std.specs.Prelude.{◌≡◌, length};
+ghost use Rattle.codes.specs.Refusals.{refusal};
+ghost use Rattle.codes.specs.declared.refusals.Reason.TheVariants as Reason;
 ghost use Rattle.plans.specs.Walk.{checked, plan_count};
 
 use codes::limits::OPERATORS;
-use plan_records::{Reading, read};
-use plan_widths::{Width, width_of};
+use codes::refusals::{Reason, Refusal};
+use plan_records::read;
+use plan_widths::width_of;
 
-// The answer of the plan check, with the place of a refusal.
-#[derive(Clone, Copy)]
-pub enum Checked {
-    Operators(usize),
-    Unsound(usize),
+// Refusal 5, at a place.
+fn unsound(place: usize) -> Refusal
+    ensures { result ≡ refusal Reason.Plan place }
+{
+    Refusal {
+        reason: Reason::Plan,
+        place,
+    }
 }
 
 // The operators of a plan from left to right, each record read once; the widths of their tables stand in the lent
 // bytes.
-fn operators(plan: &[u8], widths: &mut [u8]) -> Checked
+fn operators(plan: &[u8], widths: &mut [u8]) -> Result<usize, Refusal>
     requires { length widths.old ≡ 512 }
     ensures { checked result ≡ plan_count plan.now }
 {
     let mut at: usize = 0;
     let mut n: usize = 0;
     let mut last: usize = 0;
+    // As it is: (d) the records have their own lengths, so no range and no chunks go over them.
     while at < plan.len() {
         let full = n == OPERATORS;
         if full {
-            return Checked::Unsound(at);
+            return Err(unsound(at));
         }
-        let Reading::Sound(found) = read(plan, at) else {
-            return Checked::Unsound(at);
+        // As it is: (a) document 01 takes a reader's answer apart by `let .. else`, here and below.
+        let Some(found) = read(plan, at) else {
+            return Err(unsound(at));
         };
         let operator = found.operator;
-        let Width::Is(w) = width_of(plan, operator, widths, n) else {
-            return Checked::Unsound(at);
+        let Some(w) = width_of(plan, operator, widths, n) else {
+            return Err(unsound(at));
         };
         widths[n] = w as u8;
         last = at;
@@ -42,17 +50,17 @@ fn operators(plan: &[u8], widths: &mut [u8]) -> Checked
         n += 1;
     }
     if n == 0 {
-        return Checked::Unsound(0);
+        return Err(unsound(0));
     }
     if widths[n - 1] == 3 {
-        Checked::Operators(n)
+        Ok(n)
     } else {
-        Checked::Unsound(last)
+        Err(unsound(last))
     }
 }
 
 // The plan check: the number of operators, or refusal 5.
-pub fn check(plan: &[u8]) -> Checked
+pub fn check(plan: &[u8]) -> Result<usize, Refusal>
     ensures { checked result ≡ plan_count plan.now }
 {
     let mut widths = [0u8; OPERATORS];

@@ -31,10 +31,8 @@ use Rattle.agreement.proofs.RowWidths.{read_sound, flat_wide, flat_last, running
 use Rattle.theorems.specs.PlanRead.{widths_of}
 use Rattle.agreement.specs.RowWidths.{TablesLaid}
 use Rattle.agreement.proofs.Answers.{last_three, room_lent, found_same, plan_long}
-use Rattle.verdicts.specs.declared.Told.{Told}
-use Rattle.verdicts.specs.Compared.{refused_with}
+use Rattle.verdicts.specs.Compared.{Told, GaveStands, refused_with}
 use Rattle.lines.specs.Printed.{value_of, told_by}
-use Rattle.verdicts.specs.Compared.{GaveStands}
 use Rattle.lines.specs.Placed.{room_for}
 use Rattle.answers.specs.Second.{second, Within}
 use Rattle.answers.proofs.Keeping.{rows_stand, rows_room}
@@ -85,7 +83,7 @@ run_within bytes doc lent a e =
 outcome_stands : (lent : ℕ) (m : Reading (Work Standing))
     → Found (λ k. (s : Standing) → k ≡ done s → length s.items ≤ lent) m
     → GaveStands lent (told_by 0 (evaluate_outcome lent m).answer)
-unfolding evaluate_outcome refusal told_by GaveStands
+unfolding evaluate_outcome refusal told_by
 outcome_stands lent (refuses n p) h = tt
 outcome_stands lent (reads (full p)) h = tt
 outcome_stands lent (reads (failed p)) h = tt
@@ -133,7 +131,7 @@ keep_fits bytes doc l m k a e h g j =
 -- what the evaluator gave, where it was asked
 second_stands : (a : Answer) (cells : List ℤ) (query doc : List ℕ)
     → GaveStands (length cells) (told_by 0 (second a cells query doc).answer)
-unfolding second refused_with told_by GaveStands
+unfolding second refused_with told_by
 second_stands (gives ns) cells query doc = items_stand query doc (length cells) _ refl
 second_stands (refused n p) cells query doc = by_test (eqb n 6)
   where

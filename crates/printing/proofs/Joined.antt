@@ -6,26 +6,23 @@
 --     bytes_within     the plan's bytes stand in the lent bytes
 --     plan_text        the text of a plan is what is printed
 --     tells_refused, tells_plan     what `tell` leaves, after a translator's refusal, and of a plan
+use Rattle.std.specs.Prelude.{Result, Ok, Err}
 use Prim.Native.Nat.{ℕ, ◌-◌, ◌≤◌}
 use mathlib.Core.Path.{◌≡◌, refl, sym, ap, ◌∙◌, subst}
 use mathlib.Core.List.{List, [], ◌∷◌}
 use mathlib.Core.Bool.{Bool, true, false, cond}
 use native.Mathlib.Omega.{arith}
 use native.Mathlib.Nat.{sub-zero}
-use denote.Enum.Declared.{tag_of}
-use types.Run.{OneOf, miss, hit}
 use lib.IntN.{ℤ}
 use lib.ListN.{length, take}
 use Rattle.laws.specs.Rows.{laid}
 use Rattle.cells.specs.Bytes.{Bytes}
 use Rattle.meaning.specs.Calls.{Answer, gives, Outcome, translate_call, run_call, evaluate_call}
+use Rattle.codes.specs.declared.refusals.Refusal.{Refusal}
 use Rattle.translator.specs.declared.Translated.{Translated}
-use Rattle.translator.specs.declared.Translated.TheVariants.{Plan, Unsound, Excess, Unbound, Longer}
-use Rattle.translator.specs.contracts.Translated.{the_type}
 use Rattle.translator.specs.Answers.{answered}
-use Rattle.verdicts.specs.declared.Told.{Told}
 use Rattle.lines.specs.Text as Text
-use Rattle.verdicts.specs.Compared.{refused_with}
+use Rattle.verdicts.specs.Compared.{Told, refused_with}
 use Rattle.lines.specs.Text.{text, same_no, Nowhere}
 use Rattle.lines.specs.Printed.{value_of, told_by, run_items, printed}
 use Rattle.lines.specs.Placed.{Put}
@@ -73,56 +70,44 @@ module _ (query plan doc : List ℕ) (l : ℕ) (ra : Answer) (w ys ks zs : List 
   unfolding run_items
   items_end = cc
 
--- what is no plan is a refusal
-pub not_plan : (x : Translated) → ((n m : ℕ) → x ≡ Plan n m → ⊥) → OneOf (1 ∷ 2 ∷ 3 ∷ 4 ∷ []) (tag_of the_type x)
-not_plan (Plan n m) h = absurd (h n m refl)
-not_plan (Unsound p) h = hit (1 ∷ 2 ∷ 3 ∷ 4 ∷ []) 1 tt
-not_plan (Excess p) h = hit (1 ∷ 2 ∷ 3 ∷ 4 ∷ []) 2 tt
-not_plan (Unbound p) h = hit (1 ∷ 2 ∷ 3 ∷ 4 ∷ []) 3 tt
-not_plan Longer h = hit (1 ∷ 2 ∷ 3 ∷ 4 ∷ []) 4 tt
-
-any_rest : (x : Translated) → OneOf (1 ∷ 2 ∷ 3 ∷ 4 ∷ []) (tag_of the_type x)
+any_rest : (x : Result Translated Refusal) (r : Refusal) → x ≡ Err r
     → (ran ran' : Told) (xs xs' : List ℤ) (evaluated evaluated' : Told) (ys ys' : List ℤ)
     → text (told_by 0 (answered x)) ran xs evaluated ys ≡ text (told_by 0 (answered x)) ran' xs' evaluated' ys'
 unfolding text told_by answered
-any_rest (Plan n m) h ran ran' xs xs' evaluated evaluated' ys ys' = absurd (miss (1 ∷ 2 ∷ 3 ∷ 4 ∷ []) 0 tt h)
-any_rest (Unsound p) h ran ran' xs xs' evaluated evaluated' ys ys' = refl
-any_rest (Excess p) h ran ran' xs xs' evaluated evaluated' ys ys' = refl
-any_rest (Unbound p) h ran ran' xs xs' evaluated evaluated' ys ys' = refl
-any_rest Longer h ran ran' xs xs' evaluated evaluated' ys ys' = refl
+any_rest x r h ran ran' xs xs' evaluated evaluated' ys ys' = rw h refl
 
-module _ (x : Translated) (told : Told) (query doc : List ℕ) (l : ℕ) where
+module _ (x : Result Translated Refusal) (told : Told) (query doc : List ℕ) (l : ℕ) where
   -- after a refusal the rest does not matter
-  pub refused_text : (ran evaluated : Told) (xs ys : List ℤ) → OneOf (1 ∷ 2 ∷ 3 ∷ 4 ∷ []) (tag_of the_type x) → l ≡ 6144
+  pub refused_text : (r : Refusal) (ran evaluated : Told) (xs ys : List ℤ) → x ≡ Err r → l ≡ 6144
       → answered x ≡ (translate_call query l).answer → told ≡ told_by 0 (answered x)
       → text told ran xs evaluated ys ≡ printed doc query
   unfolding printed
-  refused_text ran evaluated xs ys h e a d =
+  refused_text r ran evaluated xs ys h e a d =
       rest (translate_call query 6144).answer (a ∙ ap (λ (k : ℕ). (translate_call query k).answer) e) _ _ _ _
     where
       rest : (o : Answer) → answered x ≡ o → (ran' evaluated' : Told) (xs' ys' : List ℤ)
           → text told ran xs evaluated ys ≡ text (told_by 0 o) ran' xs' evaluated' ys'
       rest o k ran' evaluated' xs' ys' =
           ap (λ (t : Told). text t ran xs evaluated ys) d
-          ∙ any_rest x h ran ran' xs xs' evaluated evaluated' ys ys'
+          ∙ any_rest x r h ran ran' xs xs' evaluated evaluated' ys ys'
           ∙ ap (λ (b : Answer). text (told_by 0 b) ran' xs' evaluated' ys') k
 
   -- the text of the plan is what is printed
-  pub plan_text : (n m : ℕ) (bytes : List ℕ) → x ≡ Plan n m → l ≡ 6144 → answered x ≡ (translate_call query l).answer
+  pub plan_text : (t : Translated) (bytes : List ℕ) → x ≡ Ok t → l ≡ 6144 → answered x ≡ (translate_call query l).answer
       → bytes ≡ (translate_call query l).left → told ≡ told_by 0 (answered x)
-      → engines told query (take (m - 0) bytes) doc ≡ printed doc query
+      → engines told query (take (t.bytes - 0) bytes) doc ≡ printed doc query
   unfolding printed engines answered value_of
-  plan_text n m bytes e h a b d =
-      let z : m - 0 ≡ m = sub-zero m in
-      let v : value_of 1 (answered x) ≡ m = ap (λ (y : Translated). value_of 1 (answered y)) e in
+  plan_text t bytes e h a b d =
+      let z : t.bytes - 0 ≡ t.bytes = sub-zero t.bytes in
+      let v : value_of 1 (answered x) ≡ t.bytes = ap (λ (y : Result Translated Refusal). value_of 1 (answered y)) e in
       cc
 
 -- the plan's bytes stand in the lent bytes
-pub bytes_within : (x : Translated) (query : List ℕ) (l n m : ℕ) → x ≡ Plan n m
-    → answered x ≡ (translate_call query l).answer → m ≤ l
+pub bytes_within : (x : Result Translated Refusal) (query : List ℕ) (l : ℕ) (t : Translated) → x ≡ Ok t
+    → answered x ≡ (translate_call query l).answer → t.bytes ≤ l
 unfolding answered value_of
-bytes_within x query l n m e a =
-    subst (λ (y : Translated). value_of 1 (answered y) ≤ l) e (plan_within query l (answered x) a)
+bytes_within x query l t e a =
+    subst (λ (y : Result Translated Refusal). value_of 1 (answered y) ≤ l) e (plan_within query l (answered x) a)
 
 -- What `tell` leaves
 
@@ -138,20 +123,12 @@ text_put query doc xs ys bs n small p e =
     )
 
 -- where the translator refused, there is no plan
-no_plan : {A : Type 0} (x : Translated) (a b : A) → OneOf (1 ∷ 2 ∷ 3 ∷ 4 ∷ []) (tag_of the_type x)
-    → planned (answered x) a b ≡ b
+stays : {A : Type 0} (x : Result Translated Refusal) (o : Answer) (a b : A) (r : Refusal) → answered x ≡ o → x ≡ Err r
+    → b ≡ planned o a b
 unfolding planned answered
-no_plan (Plan n m) a b h = absurd (miss (1 ∷ 2 ∷ 3 ∷ 4 ∷ []) 0 tt h)
-no_plan (Unsound p) a b h = refl
-no_plan (Excess p) a b h = refl
-no_plan (Unbound p) a b h = refl
-no_plan Longer a b h = refl
+stays x o a b r e h = ap (λ (c : Answer). planned c a b) (sym (ap answered h) ∙ e)
 
-stays : {A : Type 0} (x : Translated) (o : Answer) (a b : A) → answered x ≡ o
-    → OneOf (1 ∷ 2 ∷ 3 ∷ 4 ∷ []) (tag_of the_type x) → b ≡ planned o a b
-stays x o a b e h = sym (no_plan x a b h) ∙ ap (λ (c : Answer). planned c a b) e
-
-module _ (x : Translated) (told : Told) (query doc bytes : List ℕ) (l : ℕ) (small : Bytes query) (six : l ≡ 6144)
+module _ (x : Result Translated Refusal) (told : Told) (query doc bytes : List ℕ) (l : ℕ) (small : Bytes query) (six : l ≡ 6144)
     (answers : answered x ≡ (translate_call query l).answer) (leaves : bytes ≡ (translate_call query l).left)
     (tells : told ≡ told_by 0 (answered x)) (work kept : List ℤ) (text text' : List ℕ) (k : ℕ) where
   theirs : answered x ≡ (translate_call query 6144).answer
@@ -160,29 +137,30 @@ module _ (x : Translated) (told : Told) (query doc bytes : List ℕ) (l : ℕ) (
   bytes_are : bytes ≡ (translate_call query 6144).left
   bytes_are = leaves ∙ ap (λ (j : ℕ). (translate_call query j).left) six
 
-  pub tells_refused : (ran evaluated : Told) (xs ys : List ℤ) → OneOf (1 ∷ 2 ∷ 3 ∷ 4 ∷ []) (tag_of the_type x)
+  pub tells_refused : (r : Refusal) (ran evaluated : Told) (xs ys : List ℤ) → x ≡ Err r
       → Put text text' 0 (Text.text told ran xs evaluated ys) k
       → TellsText query doc bytes work work kept kept text text' k
-  tells_refused ran evaluated xs ys h p =
+  tells_refused r ran evaluated xs ys h p =
       let (put, prints, within, never) =
       text_put query doc text text' _ k small p
-      (refused_text x told query doc l ran evaluated xs ys h six answers tells) in
+      (refused_text x told query doc l r ran evaluated xs ys h six answers tells) in
       record {
         put = put;
         prints = prints;
         within = within;
         never_no = never;
         plan = bytes_are;
-        cells = stays x _ _ work theirs h;
-        items = stays x _ _ kept theirs h;
+        cells = stays x _ _ work r theirs h;
+        items = stays x _ _ kept r theirs h;
       }
 
-  pub tells_plan : (n m : ℕ) (work' kept' : List ℤ) → x ≡ Plan n m
-      → TextEnds told query (take (m - 0) bytes) doc kept kept' work' text text' k
+  pub tells_plan : (t : Translated) (work' kept' : List ℤ) → x ≡ Ok t
+      → TextEnds told query (take (t.bytes - 0) bytes) doc kept kept' work' text text' k
       → TellsText query doc bytes work work' kept kept' text text' k
   unfolding planned answered value_of
-  tells_plan n m work' kept' e p =
-      let g : (translate_call query 6144).answer ≡ gives (n ∷ m ∷ []) = sym theirs ∙ ap answered e in
+  tells_plan t work' kept' e p =
+      let m = t.bytes in
+      let g : (translate_call query 6144).answer ≡ gives (t.operators ∷ t.bytes ∷ []) = sym theirs ∙ ap answered e in
       let z : m - 0 ≡ m = sub-zero m in
       let v : value_of 1 (translate_call query 6144).answer ≡ m = ap (value_of 1) g in
       let same : take (m - 0) bytes
@@ -190,7 +168,7 @@ module _ (x : Translated) (told : Told) (query doc bytes : List ℕ) (l : ℕ) (
       ap (λ (j : ℕ). take j bytes) (z ∙ sym v) ∙ ap (take (value_of 1 (translate_call query 6144).answer)) bytes_are in
       let (put, prints, within, never) =
       text_put query doc text text' _ k small p.put
-      (plan_text x told query doc l n m bytes e six answers leaves tells)
+      (plan_text x told query doc l t bytes e six answers leaves tells)
       in
       record {
         put = put;

@@ -28,15 +28,33 @@ use Rattle.theorems.specs.PlanRead.{TranslatedPlan}
 use Rattle.agreement.specs.Passing.{means, Refused as RefusedBy, items_at, Alike, both_fail, both_give}
 use Rattle.agreement.proofs.Encoded.{same_row_self}
 use Rattle.agreement.proofs.EnginesAgree.{agree_in_hand}
-use Rattle.verdicts.specs.declared.Told.{Told}
-use Rattle.verdicts.specs.declared.Told.TheVariants.{Gave, Refused}
 use Rattle.verdicts.specs.declared.Verdict.{Verdict}
 use Rattle.verdicts.specs.declared.Verdict.TheVariants.{Agree, Differ, Room}
-use Rattle.verdicts.specs.Compared.{refused_with, agree, verdict}
+use Rattle.verdicts.specs.Compared.{Told, Gave, Refused, refused_with, agree, verdict}
 use Rattle.lines.specs.Text.{same_no, Nowhere}
 use Rattle.lines.specs.Printed.{value_of, told_by, run_items, printed}
-use Rattle.verdicts.proofs.Verdicts.{first_room, second_room, by_agree}
 use Rattle.lines.proofs.SameNo.{no_same_no}
+
+-- the verdict, test by test
+module _ (ran : Told) (xs : List ℤ) (evaluated : Told) (ys : List ℤ) where
+  first_room : refused_with 6 ran ≡ true → Room ≡ verdict ran xs evaluated ys
+  unfolding verdict
+  first_room e = rw e
+
+  second_room : refused_with 6 evaluated ≡ true → Room ≡ verdict ran xs evaluated ys
+  unfolding verdict
+  second_room e = by_test (refused_with 6 ran)
+    where
+      by_test : (t : Bool) → Room ≡ cond (t || refused_with 6 evaluated) Room
+          (cond (agree ran xs evaluated ys) Agree Differ)
+      by_test true = refl
+      by_test false = rw e
+
+  by_agree : (t : Bool) → refused_with 6 ran ≡ false → refused_with 6 evaluated ≡ false
+      → agree ran xs evaluated ys ≡ t
+      → cond t Agree Differ ≡ verdict ran xs evaluated ys
+  unfolding verdict
+  by_agree t e d h = rw (e, d, h)
 
 -- the verdict on a run and an evaluation
 abbrev judged : Outcome ℤ → Outcome ℤ → Verdict

@@ -9,7 +9,7 @@
 use Rattle.std.specs.Prelude.{ℕ, ◌≤◌, ◌≡◌, List, ℤ, length, take}
 use Rattle.laws.specs.Rows.{laid}
 use Rattle.meaning.specs.Calls.{Answer, gives, refused, Outcome, translate_call, run_call, evaluate_call}
-use Rattle.verdicts.specs.declared.Told.{Told}
+use Rattle.verdicts.specs.Compared.{Told}
 use Rattle.lines.specs.Text.{Text, text, same_no, Nowhere}
 use Rattle.lines.specs.Printed.{value_of, told_by, run_items, printed}
 use Rattle.lines.specs.Placed.{Put}

@@ -2,10 +2,10 @@
 #![tactic(auto)]
 
 ghost use Rattle.std.specs.Prelude.{◌≤◌, ◌≡◌, length};
+ghost use Rattle.verdicts.specs.Compared.{told};
 ghost use Rattle.printing.specs.Engines.{TextEnds, TellsText};
 
 use answers::{keep_items, plan_told, run_told, second_told};
-use translator::Translated;
 use verdicts::Told;
 
 // Runs the plan, evaluates the query in the same cells, and writes what both told. The runner's items are kept before
@@ -21,7 +21,7 @@ fn both(
 ) -> usize
     requires work_len { length work.old ≡ 8192 }
     requires in_bounds { (2730 ≤ length kept.old) × (87488 ≤ length text.old) }
-    ensures { TextEnds translated query.now plan.now doc.now kept.old
+    ensures { TextEnds (told translated) query.now plan.now doc.now kept.old
         kept.new work.new text.old text.new result }
 {
     let ran = runner::run(plan, doc, work);
@@ -48,15 +48,9 @@ pub fn tell(
 {
     let translated = translator::translate(query, plan);
     let told = plan_told(translated);
-    let Translated::Plan { bytes, .. } = translated else {
-        return lines::write(
-            text,
-            told,
-            Told::Refused(0, 0),
-            kept,
-            Told::Refused(0, 0),
-            work,
-        );
-    };
-    both(told, query, &plan[0..bytes], doc, work, kept, text)
+    match translated {
+        // After a refusal nothing of the engines is printed: it stands for what they told.
+        Err(refusal) => lines::write(text, told, Err(refusal), kept, Err(refusal), work),
+        Ok(made) => both(told, query, &plan[0..made.bytes], doc, work, kept, text),
+    }
 }

@@ -5,6 +5,7 @@
 --     in_hand           demand 3 of what a caller has in hand
 --     back_in_hand      the round trip of what a caller has in hand
 --     told_never        what `tell` leaves never holds `same no`
+use Rattle.std.specs.Prelude.{Ok}
 use Prim.Native.Nat.{ℕ, ◌+◌}
 use mathlib.Core.Path.{◌≡◌, refl, sym, ap, ◌∙◌, subst, subst₃}
 use mathlib.Core.List.{List, [], ◌∷◌}
@@ -20,7 +21,6 @@ use Rattle.catalogue.proofs.Decided as CatalogueDecided
 use Rattle.queries.specs.Answers as Queries
 use Rattle.queries.proofs.Decided as QueryDecided
 use Rattle.translator.specs.Answers as Translator
-use Rattle.translator.specs.declared.Translated.TheVariants.{Plan}
 use Rattle.translator.proofs.Decided as TranslatorDecided
 use Rattle.runner.specs.Answers as Runner
 use Rattle.runner.proofs.Decided as RunnerDecided
@@ -31,10 +31,8 @@ use Rattle.grammar.specs.Typed.{TypedCall}
 use Rattle.grammar.specs.Written.{text_of}
 use Rattle.grammar.proofs.Writing.{written_call}
 use Rattle.reader.specs.Answers as Reader
-use Rattle.reader.specs.declared.Typed.TheVariants.{Records}
 use Rattle.reader.proofs.Decided as ReaderDecided
 use Rattle.wording.specs.Answers as Writer
-use Rattle.wording.specs.declared.Written.TheVariants.{Text}
 use Rattle.wording.proofs.Decided as WriterDecided
 use Rattle.lines.specs.Text.{same_no, Nowhere}
 use Rattle.lines.specs.Printed.{run_items, printed}
@@ -119,8 +117,8 @@ decided =
 pub in_hand : Demand3InHand
 unfolding Translator.answered Catalogue.answered
 in_hand query doc bytes bytes' work work' cells cells' r e n m rows small ht hk hr not-run he not-evaluation =
-    agree_in_hand query doc bytes' work' cells' (Translator.answered (Plan n m)) (gives (rows ∷ [])) (Runner.answered r)
-    (Evaluator.answered e) _ _ _ n m rows small (contracts.translate query bytes (Plan n m) bytes' ht) refl
+    agree_in_hand query doc bytes' work' cells' (gives (n ∷ m ∷ [])) (gives (rows ∷ [])) (Runner.answered r)
+    (Evaluator.answered e) _ _ _ n m rows small (contracts.translate query bytes _ bytes' ht) refl
     (contracts.catalogue doc _ hk) refl (contracts.run (take m bytes') doc work r work' hr) not-run
     (contracts.evaluate query doc cells e cells' he) not-evaluation
 
@@ -128,7 +126,7 @@ in_hand query doc bytes bytes' work work' cells cells' r e n m rows small ht hk 
 pub back_in_hand : RoundTripInHand
 unfolding Writer.answered Reader.answered
 back_in_hand query text text' bytes bytes' n a small hw hr enough =
-    let w = contracts.write query text (Text n) text' hw in
+    let w = contracts.write query text (Ok n) text' hw in
     let (r, e, long, left) = write_written query (length text) n (sym w.answers) in
     let t : List ℕ = text_of expr r.tree in
     let held : take n text' ≡ t =
@@ -139,7 +137,7 @@ back_in_hand query text text' bytes bytes' n a small hw hr enough =
     (contracts.read (take n text') bytes a bytes' hr)
     in
     let same =
-    ReaderDecided.decided t (length bytes) a (Records r.records (length query)) bytes'
+    ReaderDecided.decided t (length bytes) a (Ok (record { records = r.records; bytes = length query })) bytes'
     (padded 0 (length bytes) query) back (written_call query r (length bytes) small e enough)
     in
     (r, e, same.0, same.1)

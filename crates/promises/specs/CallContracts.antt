@@ -1,6 +1,9 @@
 -- How the page cites a contract: not by a copy of its text, but by what Rattle itself reads off the source's `ensures`
 -- for a caller. That reading is `Learnt` of the function: a statement on the arguments (`given`), the answer, and what
 -- the arguments are at the end (`end`), each in the order of the source. `now` is what a slice holds.
+--     Catalogued, Checked, Translated     what `catalogue::check`, `queries::check` and `translate` answer
+--     Ran, Evaluated, Typed, Written      .. `run`, `evaluate`, `read` and `write`
+--     Rows, Plan, Records, Text          .. where no refusal is answered
 --     CatalogueAllows doc a              the contract of `catalogue::check` allows answer a to these bytes
 --     QueryAllows query a                .. of `queries::check`
 --     TranslateAllows query b a b'       .. of `translator::translate`, lent bytes b, to answer a and leave b'
@@ -10,33 +13,65 @@
 --     WriteAllows query t a t'           .. of `wording::write`, lent bytes t, to answer a and leave t'
 --     TellAllows query doc w k t n ..    .. of `printing::tell`, lent cells w, cells k and bytes t besides the plan's,
 --                                        to answer n and leave plan', work', kept' and text'
-use Rattle.std.specs.Prelude.{ℕ, ◌≡◌, List, ℤ}
+use Rattle.std.specs.Prelude.{ℕ, ◌≡◌, List, ℤ, Result, Ok}
 use contract.Lifetimes.{Lfts}
 use denote.Triple.Clauses.{AtExit}
 use borrow.Fn.Kinds.{Dens, ended_of}
-use Rattle.catalogue.specs.declared.Checked.{Checked as Catalogued}
+use Rattle.codes.specs.declared.refusals.Refusal.{Refusal}
 use Rattle.catalogue.proofs.check.Reads as CatalogueCheck
 use Rattle.catalogue.proofs.check.Kinds as CatalogueKinds
-use Rattle.queries.specs.declared.Checked.{Checked}
 use Rattle.queries.proofs.check.Reads as QueryCheck
 use Rattle.queries.proofs.check.Kinds as QueryKinds
-use Rattle.translator.specs.declared.Translated.{Translated}
+use Rattle.translator.specs.declared.Translated.{Translated as Made}
 use Rattle.translator.proofs.translate.Reads as Translate
 use Rattle.translator.proofs.translate.Kinds as TranslateKinds
-use Rattle.runner.specs.declared.Ran.{Ran}
+use Rattle.running.specs.declared.Tables.{Tables}
 use Rattle.runner.proofs.run.Reads as Run
 use Rattle.runner.proofs.run.Kinds as RunKinds
-use Rattle.evaluator.specs.declared.Evaluated.{Evaluated}
+use Rattle.evaluator.specs.declared.Evaluated.{Evaluated as Given}
 use Rattle.evaluator.proofs.evaluate.Reads as Evaluate
 use Rattle.evaluator.proofs.evaluate.Kinds as EvaluateKinds
-use Rattle.reader.specs.declared.Typed.{Typed}
+use Rattle.reader.specs.declared.Typed.{Typed as Recorded}
 use Rattle.reader.proofs.read.Reads as Read
 use Rattle.reader.proofs.read.Kinds as ReadKinds
-use Rattle.wording.specs.declared.Written.{Written}
 use Rattle.wording.proofs.write.Reads as Write
 use Rattle.wording.proofs.write.Kinds as WriteKinds
 use Rattle.printing.proofs.tell.Reads as Tell
 use Rattle.printing.proofs.tell.Kinds as TellKinds
+
+-- the answers: what was asked for, or a refusal
+abbrev pub Catalogued : Type 0
+Catalogued = Result ℕ Refusal
+
+abbrev pub Rows : ℕ → Catalogued
+Rows n = Ok n
+
+abbrev pub Checked : Type 0
+Checked = Result ℕ Refusal
+
+abbrev pub Translated : Type 0
+Translated = Result Made Refusal
+
+abbrev pub Plan : ℕ → ℕ → Translated
+Plan n m = Ok (record { operators = n; bytes = m })
+
+abbrev pub Ran : Type 0
+Ran = Result Tables Refusal
+
+abbrev pub Evaluated : Type 0
+Evaluated = Result Given Refusal
+
+abbrev pub Typed : Type 0
+Typed = Result Recorded Refusal
+
+abbrev pub Records : ℕ → ℕ → Typed
+Records n m = Ok (record { records = n; bytes = m })
+
+abbrev pub Written : Type 0
+Written = Result ℕ Refusal
+
+abbrev pub Text : ℕ → Written
+Text n = Ok n
 
 pub record CatalogueAllows (doc : List ℕ) (answer : Catalogued) : Type 0 where
   pub lifetimes : Lfts 1

@@ -45,29 +45,20 @@ use Rattle.meaning.specs.Translation.{plan}
 use Rattle.meaning.specs.Written.{written}
 use Rattle.meaning.specs.Calls.{Answer, gives, refused, Outcome, room, last_table, run_outcome}
 use Rattle.meaning.specs.Calls.{catalogue_call, query_call, translate_call, run_call, evaluate_call}
-use Rattle.catalogue.specs.declared.Checked.{Checked as Catalogued}
-use Rattle.catalogue.specs.declared.Checked.TheVariants.{Rows}
 use Rattle.catalogue.specs.Answers as Catalogue
-use Rattle.queries.specs.declared.Checked.{Checked}
 use Rattle.queries.specs.Answers as Queries
-use Rattle.translator.specs.declared.Translated.{Translated}
-use Rattle.translator.specs.declared.Translated.TheVariants.{Plan}
 use Rattle.translator.specs.Answers as Translator
-use Rattle.runner.specs.declared.Ran.{Ran}
 use Rattle.runner.specs.Answers as Runner
-use Rattle.evaluator.specs.declared.Evaluated.{Evaluated}
 use Rattle.evaluator.specs.Answers as Evaluator
 use Rattle.grammar.specs.Grammar.{expr}
 use Rattle.grammar.specs.Typed.{Typed, Outside, TypedCall}
 use Rattle.grammar.specs.Written.{text_of, write_call}
-use Rattle.reader.specs.declared.Typed.{Typed as TypedRead}
-use Rattle.reader.specs.declared.Typed.TheVariants.{Records}
 use Rattle.reader.specs.Answers as Reader
-use Rattle.wording.specs.declared.Written.{Written}
-use Rattle.wording.specs.declared.Written.TheVariants.{Text}
 use Rattle.wording.specs.Answers as Writer
 use Rattle.lines.specs.Text.{same_no, Nowhere}
 use Rattle.lines.specs.Printed.{printed}
+use Rattle.promises.specs.CallContracts.{Catalogued, Checked, Translated, Ran, Evaluated, Typed as TypedRead, Written}
+use Rattle.promises.specs.CallContracts.{Rows, Plan, Records, Text}
 use Rattle.promises.specs.CallContracts.{CatalogueAllows, QueryAllows, TranslateAllows, RunAllows, EvaluateAllows}
 use Rattle.promises.specs.CallContracts.{ReadAllows, WriteAllows, TellAllows}
 use Rattle.agreement.specs.Passing.{Passed, means, stands, evaluation, PlanPassed, makes, fills, the_run, Refused}

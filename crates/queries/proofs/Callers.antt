@@ -1,22 +1,20 @@
 -- What a caller of `check` learns.
 --     check_reads       the query check answered a number of records: `query_read` reads
---     check_refuses     it answered anything else: `query_read` refuses the same
+--     check_refuses     it answered a refusal: `query_read` refuses the same
+use Rattle.std.specs.Prelude.{Result, Ok, Err}
 use Prim.Native.Nat.{ℕ}
 use mathlib.Core.Path.{◌≡◌, refl, sym, ◌∙◌, ap}
 use mathlib.Core.List.{List, [], ◌∷◌}
 use native.Mathlib.Omega.{arith}
-use denote.Enum.Declared.{tag_of}
-use types.Run.{OneOf, miss}
+use Rattle.codes.specs.Refusals.{number_of}
+use Rattle.codes.specs.declared.refusals.Refusal.{Refusal}
 use Rattle.laws.specs.Attempt.{Reading, refuses, reads}
 use Rattle.meaning.specs.Query.{Read, query_read}
-use Rattle.meaning.specs.Calls.{Answer, refused, query_answer, query_call}
-use Rattle.queries.specs.declared.Checked.{Checked}
-use Rattle.queries.specs.declared.Checked.TheVariants as Checked
+use Rattle.meaning.specs.Calls.{Answer, refused_by, query_answer, query_call}
 use Rattle.queries.specs.Answers.{answered}
-use Rattle.queries.specs.contracts.Checked.{the_type}
 
-module _ (bs : List ℕ) (c : Checked) (e : answered c ≡ query_call bs) where
-  pub check_reads : (n : ℕ) → c ≡ Checked.Records n → (r : Read) × (query_read bs ≡ reads r) × (r.records ≡ n)
+module _ (bs : List ℕ) (c : Result ℕ Refusal) (e : answered c ≡ query_call bs) where
+  pub check_reads : (n : ℕ) → c ≡ Ok n → (r : Read) × (query_read bs ≡ reads r) × (r.records ≡ n)
   unfolding query_call query_answer answered
   check_reads n h = go (query_read bs) refl (sym (ap answered h) ∙ e)
     where
@@ -26,18 +24,12 @@ module _ (bs : List ℕ) (c : Checked) (e : answered c ≡ query_call bs) where
       go (refuses k p) q s = let z : ◌≡◌ {A = ℕ} 0 1 = cc in absurd (omega arith)
       go (reads r) q s = (r, q, cc)
 
-  pub check_refuses :
-      OneOf (1 ∷ 2 ∷ 3 ∷ []) (tag_of the_type c) →
-      (k : ℕ) × (p : ℕ) × (query_read bs ≡ refuses k p) × (answered c ≡ refused k p)
+  pub check_refuses : (r : Refusal) → c ≡ Err r → query_read bs ≡ refuses (number_of r.reason) r.place
   unfolding query_call query_answer answered
-  check_refuses h = go c (query_read bs) h refl e
+  check_refuses r h = go (query_read bs) refl (sym (ap answered h) ∙ e)
     where
       go :
-          (c : Checked) (a : Reading Read) → OneOf (1 ∷ 2 ∷ 3 ∷ []) (tag_of the_type c) →
-          query_read bs ≡ a → answered c ≡ query_answer a →
-          (k : ℕ) × (p : ℕ) × (query_read bs ≡ refuses k p) × (answered c ≡ refused k p)
-      go c (refuses k p) h q s = (k, p, q, s)
-      go (Checked.Records n) (reads r) h q s = absurd (miss (1 ∷ 2 ∷ 3 ∷ []) 0 tt h)
-      go (Checked.Unsound n) (reads r) h q s = let z : ◌≡◌ {A = ℕ} 0 1 = cc in absurd (omega arith)
-      go (Checked.Excess n) (reads r) h q s = let z : ◌≡◌ {A = ℕ} 0 1 = cc in absurd (omega arith)
-      go (Checked.Unbound n) (reads r) h q s = let z : ◌≡◌ {A = ℕ} 0 1 = cc in absurd (omega arith)
+          (a : Reading Read) → query_read bs ≡ a → refused_by r ≡ query_answer a →
+          query_read bs ≡ refuses (number_of r.reason) r.place
+      go (refuses k p) q s = cc
+      go (reads x) q s = let z : ◌≡◌ {A = ℕ} 0 1 = cc in absurd (omega arith)

@@ -2,30 +2,30 @@
 --     case_of         the case that number and values tell
 --     same_answer    two answers with the same number and values are equal
 --     decided        so are two answers that the contract allows
+use Rattle.std.specs.Prelude.{Result, Ok, Err}
 use mathlib.Core.List.{List, [], ◌∷◌}
 use mathlib.Core.Path.{◌≡◌, refl, ap, sym, ◌∙◌}
 use Prim.Native.Nat.{ℕ}
-use mathlib.Core.Bool.{cond}
-use lib.Dec.{eqb}
+use Rattle.codes.specs.Refusals.{refusal}
+use Rattle.codes.proofs.Reasons.{reason_of, reason_is}
+use Rattle.codes.specs.declared.refusals.Reason.{Reason}
+use Rattle.codes.specs.declared.refusals.Refusal.{Refusal}
 use Rattle.meaning.specs.Calls.{Answer, gives, refused, query_call}
 use Rattle.queries.specs.Answers.{answered}
-use Rattle.queries.specs.declared.Checked.{Checked}
-use Rattle.queries.specs.declared.Checked.TheVariants.{Records, Unsound, Excess, Unbound}
 
-unfoldable case_of : Answer → Checked
-case_of (gives []) = Records 0
-case_of (gives (n ∷ ns)) = Records n
-case_of (refused k p) = cond (eqb k 1) (Unsound p) (cond (eqb k 2) (Excess p) (Unbound p))
+unfoldable case_of : Answer → Result ℕ Refusal
+case_of (gives []) = Ok 0
+case_of (gives (n ∷ ns)) = Ok n
+case_of (refused k p) = Err (refusal (reason_of k) p)
 
-case_is : (a : Checked) → case_of (answered a) ≡ a
+case_is : (a : Result ℕ Refusal) → case_of (answered a) ≡ a
 unfolding case_of answered
-case_is (Records n) = refl
-case_is (Unsound p) = refl
-case_is (Excess p) = refl
-case_is (Unbound p) = refl
+case_is (Ok n) = refl
+case_is (Err r) = ap (λ (k : Reason). Err (refusal k r.place)) (reason_is r.reason)
 
-pub same_answer : (a b : Checked) → answered a ≡ answered b → a ≡ b
+pub same_answer : (a b : Result ℕ Refusal) → answered a ≡ answered b → a ≡ b
 same_answer a b e = sym (case_is a) ∙ ap case_of e ∙ case_is b
 
-pub decided : (query : List ℕ) (a b : Checked) → answered a ≡ query_call query → answered b ≡ query_call query → a ≡ b
+pub decided :
+    (query : List ℕ) (a b : Result ℕ Refusal) → answered a ≡ query_call query → answered b ≡ query_call query → a ≡ b
 decided query a b h k = same_answer a b (h ∙ sym k)

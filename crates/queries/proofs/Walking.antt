@@ -4,7 +4,9 @@
 --     walk_read       `walk` under the flags of vs is `read` under vs, without the tree
 --     call_stopped, call_whole, call_extra    the answer of the query check, from its walk
 --     walk_unsound, walk_deep, walk_many, walk_sound    what `walk` does at a record
+--     walk_refused    a walk that is refused
 --     walk_stopped, walk_passed    what follows a walk that stopped, or passed
+use Rattle.std.specs.Prelude.{Option, Some, None, Result, Ok, Err}
 use Prim.Native.Nat.{ℕ, zero, suc, ◌+◌, ◌-◌, ◌≤◌, ◌<◌}
 use mathlib.Core.Path.{◌≡◌, refl, sym, ◌∙◌, ap}
 use mathlib.Core.Bool.{Bool, true, false, cond, ◌||◌}
@@ -16,30 +18,26 @@ use borrow.Author.Tests.{eq-eqb, ne_eqb, lt-ltb, le-ltb}
 use lib.Dec.{ltb, eqb}
 use lib.ListN.{length, get_or, set, replicate, length-set, get_or-replicate}
 use lib.Seq.{get_or-set_same, get_or-set_other}
-use denote.Enum.Declared.{tag_of}
-use types.Run.{OneOf, miss}
 use Rattle.cells.specs.Bytes.{word}
+use Rattle.codes.specs.Refusals.{number_of, refusal}
+use Rattle.codes.specs.declared.refusals.Reason.{Reason}
+use Rattle.codes.specs.declared.refusals.Refusal.{Refusal}
 use Rattle.laws.specs.Lists.{any}
 use Rattle.laws.specs.Attempt.{gives, Reading, refuses, reads, reading, unless, refusing}
 use Rattle.meaning.specs.Query as Query
 use Rattle.meaning.specs.Query.{Query, Read, Record, Operand, bound, leaf, one, operands, read, record_at, record_of}
 use Rattle.meaning.specs.Query.{query_read}
 use Rattle.meaning.specs.Calls.{Answer, refused, query_answer, query_call}
-use Rattle.query_records.specs.declared.Reading.{Reading as Found}
-use Rattle.query_records.specs.declared.Reading.TheVariants as Found
 use Rattle.query_records.specs.declared.Decoded.{Decoded}
 use Rattle.query_records.specs.declared.Operands.{Operands}
-use Rattle.queries.specs.declared.Checked.TheVariants as Checked
-use Rattle.queries.specs.declared.Checking.{Checking}
-use Rattle.queries.specs.declared.Checking.TheVariants as Checking
+use Rattle.queries.specs.declared.Passed.{Passed}
 use Rattle.query_records.specs.Decoded as Code
 use Rattle.query_records.specs.Decoded.{reading_of, operands_of}
 use Rattle.queries.specs.Answers.{answered, walked}
-use Rattle.queries.specs.Walk.{Passing, Walker, passes, two, three, steps, walk, answer_of, Flags}
+use Rattle.queries.specs.Walk.{Passing, Walker, passes, two, three, steps, walk, Flags}
 use Rattle.query_records.proofs.Outcomes.{refusing_apart}
 use Rattle.query_records.proofs.Fields.{record_sound}
 use Rattle.query_records.specs.Fields.{Ranged}
-use Rattle.queries.specs.contracts.Checking.{the_type}
 
 -- Readings
 
@@ -186,17 +184,17 @@ walk_read (suc d) bs fs vs n at g = record_walk d bs (walk_read d bs) fs vs n at
 
 -- The steps of the code
 
-module _ (bs : List ℕ) (at : ℕ) (r : Found) (e : reading_of r ≡ record_of bs at (word bs at 2)) where
-  at_fails : r ≡ Found.Unsound → record_at bs at ≡ refuses 1 at
+module _ (bs : List ℕ) (at : ℕ) (r : Option Decoded) (e : reading_of r ≡ record_of bs at (word bs at 2)) where
+  at_fails : r ≡ None → record_at bs at ≡ refuses 1 at
   unfolding record_at refusing reading_of
   at_fails h = rw (sym e ∙ ap reading_of h)
 
-  at_reads : (f : Decoded) → r ≡ Found.Sound f → record_at bs at ≡ reads (Code.record_of f.kind, f.next)
+  at_reads : (f : Decoded) → r ≡ Some f → record_at bs at ≡ reads (Code.record_of f.kind, f.next)
   unfolding record_at refusing reading_of
   at_reads f h = rw (sym e ∙ ap reading_of h)
 
   module _ (d : ℕ) (fs : List Bool) (n : ℕ) where
-    pub walk_unsound : r ≡ Found.Unsound → refuses 1 at ≡ walk d bs fs n at
+    pub walk_unsound : r ≡ None → refuses 1 at ≡ walk d bs fs n at
     unfolding walk reading
     walk_unsound h = go d
       where
@@ -204,7 +202,7 @@ module _ (bs : List ℕ) (at : ℕ) (r : Found) (e : reading_of r ≡ record_of 
         go zero = rw (at_fails h)
         go (suc d) = rw (at_fails h)
 
-    module _ (f : Decoded) (h : r ≡ Found.Sound f) where
+    module _ (f : Decoded) (h : r ≡ Some f) where
       pub walk_deep : d ≡ 0 → refuses 2 at ≡ walk d bs fs n at
       unfolding walk reading
       walk_deep z = rw (z, at_reads f h)
@@ -231,20 +229,18 @@ module _ (bs : List ℕ) (at : ℕ) (r : Found) (e : reading_of r ≡ record_of 
 
 -- What follows a walk
 
-module _ (w : Checking) (a : Passing) (f : ℕ × ℕ → Passing) (e : walked w ≡ a) where
-  pub walk_stopped : OneOf (1 ∷ 2 ∷ 3 ∷ []) (tag_of the_type w) → walked w ≡ reading a f
-  unfolding walked reading
-  walk_stopped h = go w h ∙ ap (λ (x : Passing). reading x f) e
-    where
-      go : (w : Checking) → OneOf (1 ∷ 2 ∷ 3 ∷ []) (tag_of the_type w) → walked w ≡ reading (walked w) f
-      go (Checking.Passed next n) h = absurd (miss (1 ∷ 2 ∷ 3 ∷ []) 0 tt h)
-      go (Checking.Unsound p) h = refl
-      go (Checking.Excess p) h = refl
-      go (Checking.Unbound p) h = refl
+pub walk_refused : (r : Refusal) (k : Reason) (p : ℕ) → r ≡ refusal k p → walked (Err r) ≡ refuses (number_of k) p
+unfolding walked
+walk_refused r k p e = ap (λ (r : Refusal). refuses (number_of r.reason) r.place) e
 
-  pub walk_passed : (next n : ℕ) → w ≡ Checking.Passed next n → f (next, n) ≡ reading a f
+module _ (w : Result Passed Refusal) (a : Passing) (f : ℕ × ℕ → Passing) (e : walked w ≡ a) where
+  pub walk_stopped : (r : Refusal) → w ≡ Err r → walked (Err r) ≡ reading a f
   unfolding walked reading
-  walk_passed next n h = ap (λ (x : Passing). reading x f) (sym (ap walked h) ∙ e)
+  walk_stopped r h = ap (λ (x : Passing). reading x f) (sym (ap walked h) ∙ e)
+
+  pub walk_passed : (p : Passed) → w ≡ Ok p → f (p.next, p.records) ≡ reading a f
+  unfolding walked reading
+  walk_passed p h = ap (λ (x : Passing). reading x f) (sym (ap walked h) ∙ e)
 
 -- The whole query
 
@@ -266,29 +262,23 @@ read_ended l (reads r) = go (eqb r.next l)
     go true = refl
     go false = refl
 
-module _ (bs : List ℕ) (w : Checking) (e : walked w ≡ walk 32 bs (replicate 8 false) 0 0) where
+module _ (bs : List ℕ) (w : Result Passed Refusal) (e : walked w ≡ walk 32 bs (replicate 8 false) 0 0) where
   call_ended : query_call bs ≡ ended (length bs) (walked w)
   unfolding query_call query_read
   call_ended =
       read_ended (length bs) (read 32 bs [] 0 0)
       ∙ ap (ended (length bs)) (sym (walk_read 32 bs (replicate 8 false) [] 0 0 flags_none) ∙ sym e)
 
-  pub call_stopped : OneOf (1 ∷ 2 ∷ 3 ∷ []) (tag_of the_type w) → answer_of (walked w) ≡ query_call bs
-  unfolding walked answer_of ended
-  call_stopped h = go w h ∙ sym call_ended
-    where
-      go : (w : Checking) → OneOf (1 ∷ 2 ∷ 3 ∷ []) (tag_of the_type w) →
-          answer_of (walked w) ≡ ended (length bs) (walked w)
-      go (Checking.Passed next n) h = absurd (miss (1 ∷ 2 ∷ 3 ∷ []) 0 tt h)
-      go (Checking.Unsound p) h = refl
-      go (Checking.Excess p) h = refl
-      go (Checking.Unbound p) h = refl
+  pub call_stopped : (r : Refusal) → w ≡ Err r → answered (Err r) ≡ query_call bs
+  unfolding walked answered ended
+  call_stopped r h = rw (call_ended, h)
 
-  module _ (next n : ℕ) (p : w ≡ Checking.Passed next n) where
-    pub call_whole : next ≡ length bs → answered (Checked.Records n) ≡ query_call bs
+  module _ (p : Passed) (h : w ≡ Ok p) where
+    pub call_whole : p.next ≡ length bs → answered (Ok p.records) ≡ query_call bs
     unfolding walked answered ended
-    call_whole h = rw (call_ended, p, h, eq-eqb (length bs) (length bs) refl)
+    call_whole z = rw (call_ended, h, z, eq-eqb (length bs) (length bs) refl)
 
-    pub call_extra : (next ≡ length bs → ⊥) → answered (Checked.Unsound next) ≡ query_call bs
+    pub call_extra :
+        (r : Refusal) → r ≡ refusal Reason.Record p.next → (p.next ≡ length bs → ⊥) → answered (Err r) ≡ query_call bs
     unfolding walked answered ended
-    call_extra h = rw (call_ended, p, ne_eqb next (length bs) h)
+    call_extra r k z = rw (call_ended, h, k, ne_eqb p.next (length bs) z)

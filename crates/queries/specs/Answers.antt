@@ -1,22 +1,17 @@
 -- What the answers of the query check stand for in document 01 ('The eight refusals').
 --     answered c         the answer of the query check: the number of records, or refusal 1, 2 or 3 and its place
 --     walked w           how far the query check came: the offset and the records so far, or refusal 1, 2 or 3
-use Rattle.std.specs.Prelude.{ℕ, [], ◌∷◌}
+use Rattle.std.specs.Prelude.{ℕ, [], ◌∷◌, Result, Ok, Err}
 use Rattle.laws.specs.Attempt.{Reading, refuses, reads}
-use Rattle.meaning.specs.Calls.{Answer, refused}
-use Rattle.queries.specs.declared.Checked.{Checked}
-use Rattle.queries.specs.declared.Checked.TheVariants as Checked
-use Rattle.queries.specs.declared.Checking.{Checking}
-use Rattle.queries.specs.declared.Checking.TheVariants as Checking
+use Rattle.codes.specs.Refusals.{number_of}
+use Rattle.codes.specs.declared.refusals.Refusal.{Refusal}
+use Rattle.meaning.specs.Calls.{Answer, refused_by}
+use Rattle.queries.specs.declared.Passed.{Passed}
 
-unfoldable pub answered : Checked → Answer
-answered (Checked.Records n) = Answer.gives (n ∷ [])
-answered (Checked.Unsound p) = refused 1 p
-answered (Checked.Excess p) = refused 2 p
-answered (Checked.Unbound p) = refused 3 p
+unfoldable pub answered : Result ℕ Refusal → Answer
+answered (Ok n) = Answer.gives (n ∷ [])
+answered (Err r) = refused_by r
 
-unfoldable pub walked : Checking → Reading (ℕ × ℕ)
-walked (Checking.Passed next n) = reads (next, n)
-walked (Checking.Unsound p) = refuses 1 p
-walked (Checking.Excess p) = refuses 2 p
-walked (Checking.Unbound p) = refuses 3 p
+unfoldable pub walked : Result Passed Refusal → Reading (ℕ × ℕ)
+walked (Ok p) = reads (p.next, p.records)
+walked (Err r) = refuses (number_of r.reason) r.place

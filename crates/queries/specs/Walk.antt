@@ -7,11 +7,9 @@
 --     steps rd fs at n next o    the operands of a record at an offset, n records with it, read by rd from next on
 --     walk d bs fs n at    the query at an offset, d more levels allowed, fs the flags of the variables bound there,
 --                          n records before it
---     answer_of p           the answer where nothing follows
 --     Flags fs vs          the flags of the variables vs
-use Rattle.std.specs.Prelude.{ℕ, zero, suc, ◌<◌, ◌≡◌, Bool, true, false, List, [], ◌∷◌, ltb, length, get_or, set}
+use Rattle.std.specs.Prelude.{ℕ, zero, suc, ◌<◌, ◌≡◌, Bool, true, false, List, ltb, length, get_or, set}
 use Rattle.laws.specs.Attempt.{Reading, refuses, reads, reading, unless}
-use Rattle.meaning.specs.Calls.{Answer, refused}
 use Rattle.meaning.specs.Query.{Read, record_at, bound}
 use Rattle.query_records.specs.declared.Operands.{Operands}
 use Rattle.query_records.specs.declared.Operands.TheVariants.{None, Variable, One, Two, Binding, Three}
@@ -44,11 +42,6 @@ unfoldable pub walk : ℕ → List ℕ → Walker
 walk zero bs fs n at = reading (record_at bs at) (λ r. refuses 2 at)
 walk (suc d) bs fs n at =
     reading (record_at bs at) (λ r. unless (ltb n 128) 2 at (steps (walk d bs) fs at (suc n) r.1 (operands_of r.0)))
-
--- the answer where nothing follows
-unfoldable pub answer_of : Passing → Answer
-answer_of (refuses n p) = refused n p
-answer_of (reads x) = Answer.gives (x.1 ∷ [])
 
 pub record Flags (fs : List Bool) (vs : List ℕ) : Type 0 where
   pub eight : length fs ≡ 8

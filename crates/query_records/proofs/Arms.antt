@@ -5,6 +5,7 @@
 --     apply_none, apply_means    a function
 --     step_no_axis, step_no_test, step_means    a step
 --     record_cut, record_gap, record_none    no record where the mark is cut, or is none of the thirteen
+use Rattle.std.specs.Prelude.{Option, Some, None}
 use Prim.Native.Nat.{ℕ, ◌+◌, ◌≤◌, ◌<◌}
 use mathlib.Core.Path.{◌≡◌, refl, sym, ◌∙◌, ap, subst, subst⁻¹}
 use mathlib.Core.Bool.{Bool, true, false, cond}
@@ -23,20 +24,11 @@ use Rattle.codes.specs.declared.Axis.{Axis}
 use Rattle.codes.specs.declared.Test.{Test}
 use Rattle.laws.specs.Attempt.{Attempt, fails, gives, attempt, provided}
 use Rattle.meaning.specs.Query as Query
-use Rattle.meaning.specs.Query.{mark_ql, mark_qb, mark_qe, mark_qr, mark_qv, mark_qs, mark_qt, mark_qf, mark_qi, mark_qo, mark_qc}
+use Rattle.meaning.specs.Query.{mark_ql, mark_qb, mark_qe, mark_qr, mark_qv, mark_qs, mark_qt, mark_qf, mark_qi}
+use Rattle.meaning.specs.Query.{mark_qo, mark_qc}
 use Rattle.meaning.specs.Query.{mark_qd, mark_qx, sized, variable_of, boolean_of}
+use Rattle.query_records.specs.declared.Decoded.{Decoded}
 use Rattle.query_records.specs.declared.Record.{Record}
-use Rattle.query_records.specs.declared.Record.TheVariants as Record
-use Rattle.query_records.specs.declared.Reading.{Reading}
-use Rattle.query_records.specs.declared.Reading.TheVariants.{Sound, Unsound}
-use Rattle.codes.specs.declared.FunctionField.{FunctionField}
-use Rattle.codes.specs.declared.FunctionField.TheVariants as FunctionField
-use Rattle.codes.specs.declared.AxisField.{AxisField}
-use Rattle.codes.specs.declared.AxisField.TheVariants as AxisField
-use Rattle.codes.specs.declared.TestField.{TestField}
-use Rattle.codes.specs.declared.TestField.TheVariants as TestField
-use Rattle.query_records.specs.declared.Field.{Field}
-use Rattle.query_records.specs.declared.Field.TheVariants as Field
 use Rattle.query_records.specs.Decoded.{record_of, reading_of, SmallLiteral, Means, number_field}
 use Rattle.query_records.specs.Arms.{variable_at, variable_record, apply_record, step_record}
 use Rattle.query_records.proofs.Outcomes.{provided_apart, cond_all}
@@ -48,20 +40,20 @@ module _ (bs : List ℕ) (at n : ℕ) (a : Attempt Query.Record) where
   unfolding sized provided
   sized_cut h = rw h
 
-  pub means_cut : fits bs at n ≡ false → Means Unsound (sized bs at n a)
+  pub means_cut : fits bs at n ≡ false → Means None (sized bs at n a)
   unfolding reading_of
   means_cut h = record { means = sym (sized_cut h); small = tt }
 
-  pub means_fails : fits bs at n ≡ true → a ≡ fails → Means Unsound (sized bs at n a)
+  pub means_fails : fits bs at n ≡ true → a ≡ fails → Means None (sized bs at n a)
   unfolding reading_of sized provided attempt
   means_fails h e = rw (h, e) (record { means = refl; small = tt })
 
   pub means_sized :
-      (r : Reading) (k : Record) → r ≡ Sound (record { kind = k; next = at + n }) →
+      (r : Option Decoded) (k : Record) → r ≡ Some (record { kind = k; next = at + n }) →
       fits bs at n ≡ true → SmallLiteral k → a ≡ gives (record_of k) → Means r (sized bs at n a)
   unfolding reading_of sized provided attempt
   means_sized r k e h s g =
-      subst⁻¹ (λ (x : Reading). Means x (sized bs at n a)) e (rw (h, g) (record { means = refl; small = s }))
+      subst⁻¹ (λ (x : Option Decoded). Means x (sized bs at n a)) e (rw (h, g) (record { means = refl; small = s }))
 
 -- Numbers that name nothing
 
@@ -72,8 +64,8 @@ boolean_none n ((h, a), b) = simp (ne_eqb n 0 a, ne_eqb n 1 b)
 pub record_none :
     (bs : List ℕ) (at m : ℕ) →
     NoneOf m
-    (mark_qx ∷ mark_qd ∷ mark_qc ∷ mark_qo ∷ mark_qi ∷ mark_qf ∷ mark_qt ∷ mark_qs ∷ mark_qv ∷ mark_qr ∷ mark_qe ∷ mark_qb ∷ mark_ql
-    ∷ []) →
+    (mark_qx ∷ mark_qd ∷ mark_qc ∷ mark_qo ∷ mark_qi ∷ mark_qf ∷ mark_qt ∷ mark_qs ∷ mark_qv ∷ mark_qr ∷ mark_qe
+    ∷ mark_qb ∷ mark_ql ∷ []) →
     Query.record_of bs at m ≡ fails
 unfolding Query.record_of
 record_none bs at m (((((((((((((h, a), b), c), d), e), f), g), i), j), k), l), n), o) =
@@ -101,14 +93,14 @@ record_gap bs at m (inr e) = rw e
 
 -- A record of a variable
 
-module _ (bs : List ℕ) (at : ℕ) (x : Field) (e : number_field x ≡ variable_at bs at) where
-  variable_none : x ≡ Field.Unsound → variable_at bs at ≡ fails
+module _ (bs : List ℕ) (at : ℕ) (x : Option ℕ) (e : number_field x ≡ variable_at bs at) where
+  variable_none : x ≡ None → variable_at bs at ≡ fails
   variable_none h = sym e ∙ ap number_field h
 
-  variable_is : (v : ℕ) → x ≡ Field.Is v → variable_at bs at ≡ gives v
+  variable_is : (v : ℕ) → x ≡ Some v → variable_at bs at ≡ gives v
   variable_is v h = sym e ∙ ap number_field h
 
-  pub variable_room : (v : ℕ) → x ≡ Field.Is v → at + 3 ≤ length bs
+  pub variable_room : (v : ℕ) → x ≡ Some v → at + 3 ≤ length bs
   unfolding variable_at fits
   variable_room v h =
       leb-true (at + 3) (length bs)
@@ -127,13 +119,13 @@ module _ (bs : List ℕ) (at : ℕ) (f : ℕ → Query.Record) where
       go true (gives v) = refl
       go false a = refl
 
-  module _ (x : Field) (e : number_field x ≡ variable_at bs at) where
-    pub variable_fails : x ≡ Field.Unsound → Means Unsound (variable_record bs at f)
+  module _ (x : Option ℕ) (e : number_field x ≡ variable_at bs at) where
+    pub variable_fails : x ≡ None → Means None (variable_record bs at f)
     unfolding reading_of attempt
     variable_fails h = rw (variable_record_lem, variable_none bs at x e h) (record { means = refl; small = tt })
 
     pub variable_means :
-        (r : Reading) (k : Record) (v : ℕ) → r ≡ Sound (record { kind = k; next = at + 3 }) → x ≡ Field.Is v →
+        (r : Option Decoded) (k : Record) (v : ℕ) → r ≡ Some (record { kind = k; next = at + 3 }) → x ≡ Some v →
         SmallLiteral k → record_of k ≡ f v → Means r (variable_record bs at f)
     unfolding reading_of attempt
     variable_means r k v p h s q =
@@ -143,14 +135,14 @@ module _ (bs : List ℕ) (at : ℕ) (f : ℕ → Query.Record) where
 
 module _
     (bs : List ℕ) (at : ℕ) (h : fits bs at 3 ≡ true)
-    (x : FunctionField) (e : function_field x ≡ function_of (byte_at bs (at + 2))) where
-  pub apply_none : x ≡ FunctionField.Unsound → Means Unsound (apply_record bs at)
+    (x : Option Function) (e : function_field x ≡ function_of (byte_at bs (at + 2))) where
+  pub apply_none : x ≡ None → Means None (apply_record bs at)
   unfolding apply_record attempt
   apply_none p = means_fails bs at 3 _ h (rw (sym e ∙ ap function_field p))
 
   pub apply_means :
-      (f : Function) (r : Reading) → x ≡ FunctionField.Is f →
-      r ≡ Sound (record { kind = Record.Apply f; next = at + 3 }) → Means r (apply_record bs at)
+      (f : Function) (r : Option Decoded) → x ≡ Some f →
+      r ≡ Some (record { kind = Record.Apply f; next = at + 3 }) → Means r (apply_record bs at)
   unfolding apply_record attempt record_of
   apply_means f r p s = means_sized bs at 3 _ r (Record.Apply f) s h tt (rw (sym e ∙ ap function_field p))
 
@@ -158,24 +150,24 @@ module _
 
 module _
     (bs : List ℕ) (at : ℕ) (h : fits bs at 6 ≡ true)
-    (x : AxisField) (e : axis_field x ≡ axis_of (byte_at bs (at + 2))) where
-  pub step_no_axis : x ≡ AxisField.Unsound → Means Unsound (step_record bs at)
+    (x : Option Axis) (e : axis_field x ≡ axis_of (byte_at bs (at + 2))) where
+  pub step_no_axis : x ≡ None → Means None (step_record bs at)
   unfolding step_record attempt
   step_no_axis p = means_fails bs at 6 _ h (rw (sym e ∙ ap axis_field p))
 
   module _
-      (n : ℕ) (w : n ≡ word bs (at + 4) 2) (t : TestField) (f : test_field t ≡ test_of (byte_at bs (at + 3)) n)
-      (axis : Axis) (p : x ≡ AxisField.Is axis) where
+      (n : ℕ) (w : n ≡ word bs (at + 4) 2) (t : Option Test) (f : test_field t ≡ test_of (byte_at bs (at + 3)) n)
+      (axis : Axis) (p : x ≡ Some axis) where
     test_is : test_field t ≡ test_of (byte_at bs (at + 3)) (word bs (at + 4) 2)
     test_is = rw (← w) f
 
-    pub step_no_test : t ≡ TestField.Unsound → Means Unsound (step_record bs at)
+    pub step_no_test : t ≡ None → Means None (step_record bs at)
     unfolding step_record attempt
     step_no_test q = means_fails bs at 6 _ h (rw (sym e ∙ ap axis_field p, sym test_is ∙ ap test_field q))
 
     pub step_means :
-        (test : Test) (r : Reading) → t ≡ TestField.Is test →
-        r ≡ Sound (record { kind = Record.Step axis test; next = at + 6 }) → Means r (step_record bs at)
+        (test : Test) (r : Option Decoded) → t ≡ Some test →
+        r ≡ Some (record { kind = Record.Step axis test; next = at + 6 }) → Means r (step_record bs at)
     unfolding step_record attempt record_of
     step_means test r q s =
         means_sized bs at 6 _ r (Record.Step axis test) s h tt
@@ -185,11 +177,11 @@ module _
 
 module _ (bs : List ℕ) (at : ℕ) where
   pub means_mark :
-      (r : Reading) (m k : ℕ) → m ≡ word bs at 2 → m ≡ k →
+      (r : Option Decoded) (m k : ℕ) → m ≡ word bs at 2 → m ≡ k →
       Means r (Query.record_of bs at k) → Means r (Query.record_of bs at (word bs at 2))
   means_mark r m k e h = subst (λ (n : ℕ). Means r (Query.record_of bs at n)) (sym h ∙ e)
 
-  pub means_none : (a : Attempt (Query.Record × ℕ)) → a ≡ fails → Means Unsound a
+  pub means_none : (a : Attempt (Query.Record × ℕ)) → a ≡ fails → Means None a
   unfolding reading_of
   means_none a e = record { means = sym e; small = tt }
 

@@ -10,8 +10,10 @@ use lib.Dec.{eqb}
 use lib.ListN.{length}
 use Rattle.cells.specs.Bytes.{byte_at, fits}
 use Rattle.laws.specs.Attempt.{Attempt, gives, attempt, Given}
-use Rattle.meaning.specs.Query.{Record, root, variable, letting, for, mark_ql, mark_qb, mark_qe, mark_qr, mark_qv, mark_qs}
-use Rattle.meaning.specs.Query.{mark_qt, mark_qf, mark_qi, mark_qo, mark_qc, mark_qd, mark_qx, variable_of, fragment_of, sized}
+use Rattle.meaning.specs.Query.{Record, root, variable, letting, for, mark_ql, mark_qb, mark_qe, mark_qr, mark_qv}
+use Rattle.meaning.specs.Query.{mark_qs}
+use Rattle.meaning.specs.Query.{mark_qt, mark_qf, mark_qi, mark_qo, mark_qc, mark_qd, mark_qx, variable_of}
+use Rattle.meaning.specs.Query.{fragment_of, sized}
 use Rattle.meaning.specs.Query.{record_of}
 use Rattle.laws.proofs.Outcomes.{given_fails, given_gives, given_cond, given_provided, given_attempt}
 use Rattle.laws.proofs.Outcomes.{given_any}

@@ -5,19 +5,14 @@
 --     Means r a          what reading found is the attempt a of the definitions, and its literal is small
 --     number_field f      what stands in a field, or failing
 --     operands_of r       what follows a record
-use Rattle.std.specs.Prelude.{ℕ, ◌≡◌}
+use Rattle.std.specs.Prelude.{ℕ, ◌≡◌, Option, Some, None}
 use Rattle.cells.specs.Cell.{cell_of}
 use Rattle.cells.specs.Small.{Small}
-use Rattle.laws.specs.Attempt.{Attempt, fails, gives}
+use Rattle.laws.specs.Attempt.{Attempt, fails, gives, tried}
 use Rattle.meaning.specs.Query as Query
+use Rattle.query_records.specs.declared.Decoded.{Decoded}
 use Rattle.query_records.specs.declared.Record.{Record}
-use Rattle.query_records.specs.declared.Record.TheVariants as Record
-use Rattle.query_records.specs.declared.Reading.{Reading as Read}
-use Rattle.query_records.specs.declared.Reading.TheVariants as Read
-use Rattle.query_records.specs.declared.Field.{Field}
-use Rattle.query_records.specs.declared.Field.TheVariants as Field
 use Rattle.query_records.specs.declared.Operands.{Operands}
-use Rattle.query_records.specs.declared.Operands.TheVariants as Operands
 
 unfoldable pub record_of : Record → Query.Record
 record_of (Record.Literal i) = Query.literal (cell_of i)
@@ -33,9 +28,9 @@ record_of Record.Count = Query.counting
 record_of Record.Data = Query.values
 record_of (Record.Step x t) = Query.step x t
 
-unfoldable pub reading_of : Read → Attempt (Query.Record × ℕ)
-reading_of (Read.Sound d) = gives (record_of d.kind, d.next)
-reading_of Read.Unsound = fails
+unfoldable pub reading_of : Option Decoded → Attempt (Query.Record × ℕ)
+reading_of (Some d) = gives (record_of d.kind, d.next)
+reading_of None = fails
 
 -- what the cell of a literal asks: an integer and a boolean keep it, and no literal is a node
 abbrev pub SmallLiteral : Record → Type 0
@@ -52,12 +47,12 @@ SmallLiteral Record.Count = Unit {0}
 SmallLiteral Record.Data = Unit {0}
 SmallLiteral (Record.Step x t) = Unit {0}
 
-abbrev pub Smalls : Read → Type 0
-Smalls (Read.Sound d) = SmallLiteral d.kind
-Smalls Read.Unsound = Unit {0}
+abbrev pub Smalls : Option Decoded → Type 0
+Smalls (Some d) = SmallLiteral d.kind
+Smalls None = Unit {0}
 
 -- what reading promises
-pub record Means (r : Read) (a : Attempt (Query.Record × ℕ)) : Type 0 where
+pub record Means (r : Option Decoded) (a : Attempt (Query.Record × ℕ)) : Type 0 where
   pub means : reading_of r ≡ a
   pub small : Smalls r
 
@@ -75,6 +70,5 @@ operands_of Query.counting = Operands.One
 operands_of Query.values = Operands.One
 operands_of (Query.step x t) = Operands.One
 
-abbrev pub number_field : Field → Attempt ℕ
-number_field (Field.Is n) = gives n
-number_field Field.Unsound = fails
+abbrev pub number_field : Option ℕ → Attempt ℕ
+number_field = tried

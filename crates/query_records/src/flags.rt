@@ -5,16 +5,15 @@ ghost use Rattle.std.specs.Prelude.{◌≡◌, false, get_or, set};
 pub fn flag(flags: [bool; 8], v: usize) -> bool
     ensures { result ≡ get_or flags v false }
 {
-    if v < 8 { flags[v] } else { false }
+    flags.get(v).copied().unwrap_or(false)
 }
 
 // The flags with one more set, or cleared.
-pub fn with(flags: [bool; 8], v: usize, to: bool) -> [bool; 8]
+pub fn with(mut flags: [bool; 8], v: usize, to: bool) -> [bool; 8]
     ensures { result ≡ set flags v to }
 {
-    let mut row = flags;
     if v < 8 {
-        row[v] = to;
+        flags[v] = to;
     }
-    row
+    flags
 }

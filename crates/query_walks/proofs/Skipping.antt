@@ -2,9 +2,9 @@
 --     parse_deep, parse_unsound    no tree at depth 0, or where no record is
 --     parse_sound       the operands of the record that was read
 --     past_one, past_two, past_binding, past_three     the end of a tree, from the ends of its operands
---     flags_more        one more flag of a row is done
 --     free_none, free_variable, free_one, free_two, free_binding, free_three    its free variables, from theirs
-use Prim.Native.Nat.{ℕ, ◌+◌, ◌-◌, ◌<◌}
+use Rattle.std.specs.Prelude.{Option, Some, None}
+use Prim.Native.Nat.{ℕ, ◌-◌, ◌<◌}
 use mathlib.Core.Path.{◌≡◌, refl, sym, ◌∙◌, ap, subst}
 use mathlib.Core.Bool.{Bool, true, false, not, ◌&&◌}
 use mathlib.Core.List.{List}
@@ -17,8 +17,6 @@ use lib.Seq.{get_or-set_same, get_or-set_other, set_out}
 use Rattle.cells.specs.Bytes.{word}
 use Rattle.laws.specs.Attempt.{gives}
 use Rattle.meaning.specs.Query.{Query, record_of, free}
-use Rattle.query_records.specs.declared.Reading.{Reading as Found}
-use Rattle.query_records.specs.declared.Reading.TheVariants as Found
 use Rattle.query_records.specs.declared.Decoded.{Decoded}
 use Rattle.query_records.specs.declared.Operands.{Operands}
 use Rattle.query_records.specs.declared.Operands.TheVariants.{None, Variable, One, Two, Binding, Three}
@@ -35,12 +33,12 @@ use Rattle.query_walks.specs.Statements.{Spans}
 pub parse_deep : (bs : List ℕ) (at d : ℕ) → d ≡ 0 → (x : Query × ℕ) → parse d bs at ≡ gives x → ⊥
 parse_deep bs at d z x p = fails_gives x (sym (shallow_parses bs at d z) ∙ p)
 
-module _ (bs : List ℕ) (at : ℕ) (r : Found) (m : Means r (record_of bs at (word bs at 2))) (d : ℕ) where
-  pub parse_unsound : r ≡ Found.Unsound → (x : Query × ℕ) → parse d bs at ≡ gives x → ⊥
+module _ (bs : List ℕ) (at : ℕ) (r : Option Decoded) (m : Means r (record_of bs at (word bs at 2))) (d : ℕ) where
+  pub parse_unsound : r ≡ None → (x : Query × ℕ) → parse d bs at ≡ gives x → ⊥
   parse_unsound h x p = fails_gives x (sym (unfound_parses bs at r m h d) ∙ p)
 
   pub parse_sound :
-      (f : Decoded) (o p : Operands) → r ≡ Found.Sound f → (d ≡ 0 → ⊥) →
+      (f : Decoded) (o p : Operands) → r ≡ Some f → (d ≡ 0 → ⊥) →
       o ≡ operands_of (Code.record_of f.kind) → o ≡ p →
       (x : Query × ℕ) → parse d bs at ≡ gives x → Spans (parse (d - 1) bs) f.next p x.0 x.1
   parse_sound f o p h z q s x t =
@@ -103,16 +101,6 @@ only_flag u v l = go (ℕ_discrete v u)
     go (no h) =
         rw (ne_eqb v u h)
         (get_or-set_other (replicate 8 false) u v true false h ∙ get_or-replicate 8 v false false l)
-
--- one more flag of a row is done
-pub flags_more :
-    (P : ℕ → Bool) (row : List Bool) (v : ℕ) (b : Bool) → v < length row →
-    ((u : ℕ) → u < v → get_or row u false ≡ P u) → b ≡ P v → (u : ℕ) → u < v + 1 → get_or (set row v b) u false ≡ P u
-flags_more P row v b h g e u l = go (ℕ_discrete u v)
-  where
-    go : Dec (u ≡ v) → get_or (set row v b) u false ≡ P u
-    go (yes p) = rw p (get_or-set_same row v b false h ∙ e)
-    go (no p) = get_or-set_other row v u b false p ∙ g u (omega arith)
 
 module _ (rd : ℕ → Parsed) (next : ℕ) (q : Query) (e : ℕ) where
   pub free_none : Spans rd next None q e → Flagged (replicate 8 false) q

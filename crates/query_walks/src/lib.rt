@@ -4,16 +4,17 @@
 ghost use Rattle.query_walks.specs.Parse.{parse, Past, Free, Either};
 
 use query_records::flags::with;
-use query_records::{Operands, Reading, following, read};
+use query_records::{Operands, following, read};
 
 // The offset past the operand at an offset, which is at most depth levels deep.
+// As it is: (a) recursion over operands by depth, and `let .. else` at a reader's answer, are forms of document 01.
 pub fn skip(query: &[u8], at: usize, depth: usize) -> usize
     ensures { Past (parse depth query.now at) result }
 {
     if depth == 0 {
         return at;
     }
-    let Reading::Sound(found) = read(query, at) else {
+    let Some(found) = read(query, at) else {
         return at;
     };
     let kind = found.kind;
@@ -33,23 +34,18 @@ pub fn skip(query: &[u8], at: usize, depth: usize) -> usize
 fn either(a: [bool; 8], b: [bool; 8]) -> [bool; 8]
     ensures { Either a b result }
 {
-    let mut row = [false; 8];
-    let mut v: usize = 0;
-    while v < 8 {
-        row[v] = a[v] | b[v];
-        v += 1;
-    }
-    row
+    std::array::from_fn(|v| a[v] | b[v])
 }
 
 // The free variables of the operand at an offset, which is at most depth levels deep.
+// As it is: (a) as in `skip`.
 pub fn free(query: &[u8], at: usize, depth: usize) -> [bool; 8]
     ensures { Free (parse depth query.now at) result }
 {
     if depth == 0 {
         return [false; 8];
     }
-    let Reading::Sound(found) = read(query, at) else {
+    let Some(found) = read(query, at) else {
         return [false; 8];
     };
     let kind = found.kind;

@@ -1,4 +1,3 @@
-pub mod Moving
 pub mod Recording
 pub mod Agreeing
 pub mod Answering

@@ -16,13 +16,10 @@ pub fn ancestor_step(doc: &[u8], rows: usize, test: Test, from: &[bool], to: &mu
         to.old to.new }
 {
     let mut next = Rank(rows);
-    let mut left: usize = rows;
-    while 0 < left {
-        let v = left - 1;
+    for v in (0..rows).rev() {
         let end = end_of(doc, rows, Rank(v));
         to[v] = takes(next.0 <= end.0, doc, test, Rank(v));
         next = pick(from[v], Rank(v), next);
-        left = v;
     }
 }
 
@@ -34,15 +31,12 @@ pub fn preceding_step(doc: &[u8], rows: usize, test: Test, from: &[bool], to: &m
         to.old to.new }
 {
     let mut last = Rank(0);
-    let mut left: usize = rows;
-    while 0 < left {
-        let v = left - 1;
+    for v in (0..rows).rev() {
         let end = end_of(doc, rows, Rank(v));
         to[v] = takes(end.0 < last.0, doc, test, Rank(v));
         let latest = pick(from[v] & (last.0 == 0), Rank(v), last);
         let level = level_of(doc, rows, Rank(v));
         last = pick(level == 0, Rank(0), latest);
-        left = v;
     }
 }
 
@@ -54,14 +48,11 @@ pub fn parent_step(doc: &[u8], rows: usize, test: Test, from: &[bool], to: &mut 
         to.old to.new }
 {
     let mut waits = [false; 65];
-    let mut left: usize = rows;
-    while 0 < left {
-        let v = left - 1;
+    for v in (0..rows).rev() {
         let level = level_of(doc, rows, Rank(v));
         to[v] = takes(waits[level + 1], doc, test, Rank(v));
         let waiting = waits[level] | from[v];
         waits[level + 1] = false;
         waits[level] = waiting;
-        left = v;
     }
 }

@@ -2,6 +2,7 @@
 --     column_below        the columns that a plan names are columns
 --     projected-..        they are laid, one after another
 --     column_test         a column is true (RS)
+use Rattle.std.specs.Prelude.{Ok, Err}
 use Prim.Native.Nat.{ℕ, ◌+◌, ◌≤◌, ◌<◌}
 use mathlib.Core.Path.{◌≡◌, refl, sym, ap, ◌∙◌}
 use mathlib.Core.List.{List, [], ◌∷◌, ◌++◌, map}
@@ -20,7 +21,7 @@ use Rattle.cells.specs.Cell.{same, true_cell}
 use Rattle.laws.specs.Attempt.{gives}
 use Rattle.meaning.specs.Operators.{Row, cell}
 use Rattle.meaning.specs.Plan.{columns_at, columns}
-use Rattle.tables.specs.declared.Laid.TheVariants.{Rows, Full}
+use Rattle.tables.specs.declared.Unlaid.TheVariants.{Full}
 use Rattle.tables.specs.Layout.{Owes}
 use Rattle.tables.proofs.Promise.{one_full, one_laid}
 use Rattle.tables.proofs.Reading.{cell_read}
@@ -75,13 +76,14 @@ module _ (plan : List ℕ) (k : ℕ) where
 
   module _ (n room at a w : ℕ) (xs : List ℤ) (there : k + n ≤ length plan) where
     pub projected_full :
-        room < at + n → Owes room at n (gives (map (cell (row xs a w)) (columns_at plan k n) ∷ [])) xs xs Full
+        room < at + n → Owes room at n (gives (map (cell (row xs a w)) (columns_at plan k n) ∷ [])) xs xs (Err Full)
     projected_full h =
         one_full room at n (map (cell (row xs a w)) (columns_at plan k n)) xs (length_projected (row xs a w) n there) h
 
     pub projected_laid :
-        (ys : List ℤ) (i : ℕ) → at + n ≤ room → i ≡ n → ys ≡ laid xs at (map (cell (row xs a w)) (columns_at plan k i)) →
-        Owes room at n (gives (map (cell (row xs a w)) (columns_at plan k n) ∷ [])) xs ys (Rows 1)
+        (ys : List ℤ) (i : ℕ) → at + n ≤ room → i ≡ n →
+        ys ≡ laid xs at (map (cell (row xs a w)) (columns_at plan k i)) →
+        Owes room at n (gives (map (cell (row xs a w)) (columns_at plan k n) ∷ [])) xs ys (Ok 1)
     projected_laid ys i h e d =
         one_laid room at n (map (cell (row xs a w)) (columns_at plan k n)) xs (length_projected (row xs a w) n there)
         ys h

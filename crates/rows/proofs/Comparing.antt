@@ -22,7 +22,8 @@ module _ (xs : List ℤ) (a b w : ℕ) where
 
   module _ (i : ℕ) (here : i < w) (insideA : a + w ≤ length xs) (insideB : b + w ≤ length xs) where
     cells_split :
-        rest_same xs a b w i ≡ (same (get_or xs (a + i) (pos 0)) (get_or xs (b + i) (pos 0)) && rest_same xs a b w (i + 1))
+        rest_same xs a b w i ≡ (same (get_or xs (a + i) (pos 0)) (get_or xs (b + i) (pos 0))
+        && rest_same xs a b w (i + 1))
     unfolding same_row
     cells_split =
         let e : w - i ≡ suc (w - (i + 1)) = omega arith in
@@ -39,7 +40,8 @@ module _ (xs : List ℤ) (a b w : ℕ) where
         → rest_same xs a b w i ≡ rest_same xs a b w (i + 1)
     cells_same e = cells_split ∙ ap (λ (t : Bool). t && rest_same xs a b w (i + 1)) e
 
-    pub cells_differ : same (get_or xs (a + i) (pos 0)) (get_or xs (b + i) (pos 0)) ≡ false → rest_same xs a b w i ≡ false
+    pub cells_differ :
+        same (get_or xs (a + i) (pos 0)) (get_or xs (b + i) (pos 0)) ≡ false → rest_same xs a b w i ≡ false
     cells_differ e = cells_split ∙ ap (λ (t : Bool). t && rest_same xs a b w (i + 1)) e
 
   pub cells_through : (i : ℕ) → i ≡ w → rest_same xs a b w i ≡ true

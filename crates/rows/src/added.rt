@@ -9,8 +9,7 @@ ghost use Rattle.tables.specs.Layout.{Owes};
 
 use crate::attach;
 use codes::Function;
-use items::Tried;
-use tables::Laid;
+use tables::{Laid, Unlaid};
 
 // The row with function f of its columns k and d.
 pub fn apply(
@@ -30,9 +29,7 @@ pub fn apply(
         work.old work.new result }
 {
     let tried = items::arith(f, work[a + k], work[a + d]);
-    let Tried::Gives(z) = tried else {
-        return Laid::Fails;
-    };
+    let z = tried.ok_or(Unlaid::Fails)?;
     attach(work, a, w, z, at, room)
 }
 
@@ -55,8 +52,6 @@ pub fn value(
         work.old work.new result }
 {
     let tried = items::value(doc, rows, work[a + k]);
-    let Tried::Gives(z) = tried else {
-        return Laid::Fails;
-    };
+    let z = tried.ok_or(Unlaid::Fails)?;
     attach(work, a, w, z, at, room)
 }

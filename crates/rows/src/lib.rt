@@ -12,7 +12,7 @@ ghost use Rattle.meaning.specs.Operators.{cell};
 ghost use Rattle.meaning.specs.Plan.{columns_at, columns};
 ghost use Rattle.tables.specs.Layout.{Owes};
 
-use tables::{Laid, copy};
+use tables::{Laid, Unlaid, copy};
 
 // The row of width w at cell a, once more.
 pub fn repeat(work: &mut [i64], a: usize, w: usize, at: usize, room: usize) -> Laid
@@ -21,10 +21,10 @@ pub fn repeat(work: &mut [i64], a: usize, w: usize, at: usize, room: usize) -> L
         result }
 {
     if room - at < w {
-        return Laid::Full;
+        return Err(Unlaid::Full);
     }
     copy(work, a, w, at);
-    Laid::Rows(1)
+    Ok(1)
 }
 
 // The row with one cell more.
@@ -34,17 +34,11 @@ pub fn attach(work: &mut [i64], a: usize, w: usize, cell: i64, at: usize, room: 
         work.old work.new result }
 {
     if room - at <= w {
-        return Laid::Full;
+        return Err(Unlaid::Full);
     }
     copy(work, a, w, at);
     work[at + w] = cell;
-    Laid::Rows(1)
-}
-
-fn wide(b: u8) -> usize
-    ensures { result ≡ b }
-{
-    b as usize
+    Ok(1)
 }
 
 // The columns of the row that n bytes of the plan, from k on, name.
@@ -65,15 +59,13 @@ pub fn project(
         work.old work.new result }
 {
     if room - at < n {
-        return Laid::Full;
+        return Err(Unlaid::Full);
     }
-    let mut i: usize = 0;
-    while i < n {
-        let c = wide(plan[k + i]);
+    for i in 0..n {
+        let c = usize::from(plan[k + i]);
         work[at + i] = work[a + c];
-        i += 1;
     }
-    Laid::Rows(1)
+    Ok(1)
 }
 
 // The row, where its column c is true.
@@ -86,6 +78,6 @@ pub fn select(work: &mut [i64], a: usize, w: usize, c: usize, at: usize, room: u
     if cells::same(work[a + c], 0x1_0000_0001) {
         repeat(work, a, w, at, room)
     } else {
-        Laid::Rows(0)
+        Ok(0)
     }
 }

@@ -14,6 +14,7 @@ pub fn has_equal(work: &[i64], a: usize, w: usize, s: Stand) -> bool
     requires { (a + w ≤ length work.now) × Inside (length work.now) s × (s.width ≡ w) }
     ensures { result ≡ any (same_row (row work.now a w)) (table_at work.now s) }
 {
+    // As it is: a form that document 01 names, a labelled break in nested loops, left at the first equal row.
     let mut b = s.at;
     let mut left = s.rows;
     'search: while 0 < left {
@@ -42,7 +43,7 @@ pub fn minus(work: &mut [i64], a: usize, w: usize, s: Stand, at: usize, room: us
         work.old work.new result }
 {
     if has_equal(work, a, w, s) {
-        Laid::Rows(0)
+        Ok(0)
     } else {
         crate::repeat(work, a, w, at, room)
     }

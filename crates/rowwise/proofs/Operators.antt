@@ -89,4 +89,6 @@ module _ (plan : List ℕ) (c : Catalogue) (xs : List ℤ) (ts : List Table) whe
     module _ (u : ℕ) (q : Stand) (other : table_at xs q ≡ table_of ts u) where
       pub makes_RD : make (world_of c) (RD t u) ts ≡ each (made plan c xs (Minus q)) (table_at xs s)
       unfolding make
-      makes_RD = ap₂ (λ (l r : Table). gives (minus l r)) (sym stands) (sym other) ∙ minus_is plan c xs (table_at xs s) q
+      makes_RD =
+          ap₂ (λ (l r : Table). gives (minus l r)) (sym stands) (sym other)
+          ∙ minus_is plan c xs (table_at xs s) q

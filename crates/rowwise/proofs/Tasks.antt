@@ -3,16 +3,16 @@
 --     suits_worked        a task that suits reads columns only
 --     suits_up            .. suits further up, too
 --     made_laid           a task makes of a row what it made before rows were laid behind
---     settling_rest, settling_other   the tasks other than RF's never fail
+--     some_succeeds       an answer that is there succeeds
+--     settling_other      the tasks other than RF's never fail
 --     settled_all         a task that fails on no row gives rows
 --     fails_some          .. that fails on some row fails
+use Rattle.std.specs.Prelude.{Result, Option, Some, None, is_some}
 use Prim.Native.Nat.{ℕ, ◌+◌, ◌≤◌}
 use mathlib.Core.Path.{◌≡◌, refl, sym, ap, ap₂, ◌∙◌, subst}
 use mathlib.Core.List.{List, [], ◌∷◌, ◌++◌}
 use mathlib.Core.Bool.{Bool, true, false, cond, ◌&&◌}
 use native.Mathlib.Omega.{arith}
-use denote.Enum.Declared.{tag_of}
-use types.Run.{OneOf, miss}
 use lib.IntN.{ℤ}
 use lib.ListN.{length}
 use Rattle.codes.specs.declared.Function.{Function}
@@ -23,10 +23,11 @@ use Rattle.laws.specs.Attempt.{Attempt, fails, gives, attempt, each}
 use Rattle.meaning.specs.Catalogue.{Catalogue}
 use Rattle.meaning.specs.Operators.{Row, Table, cell, same_row}
 use Rattle.meaning.specs.World.{arith as function, value}
+use Rattle.items.specs.Answers.{tried}
 use Rattle.tables.specs.declared.Stand.{Stand}
 use Rattle.rowwise.specs.declared.Task.{Task}
 use Rattle.rowwise.specs.declared.Task.TheVariants.{Attach, Project, Minus, Select, Apply, Value}
-use Rattle.tables.specs.declared.Laid.{Laid}
+use Rattle.tables.specs.declared.Unlaid.{Unlaid}
 use Rattle.tables.specs.Layout.{table_at, Inside, Owes}
 use Rattle.tables.specs.Laying.{succeeds, Settled, Decided}
 use Rattle.rowwise.specs.Tasks.{made, wider, Suits, Worked, settling}
@@ -43,7 +44,7 @@ module _ (task k : Task) (e : task ≡ k) where
   task_suits plan top w h = subst (Suits plan top w) e h
 
   pub task_owes :
-      (room at w : ℕ) (plan : List ℕ) (c : Catalogue) (xs ys : List ℤ) (r : Row) (o : Laid) →
+      (room at w : ℕ) (plan : List ℕ) (c : Catalogue) (xs ys : List ℤ) (r : Row) (o : Result ℕ Unlaid) →
       Owes room at (wider w k) (made plan c xs k r) xs ys o
       → Owes room at (wider w task) (made plan c xs task r) xs ys o
   task_owes room at w plan c xs ys r o h =
@@ -55,15 +56,11 @@ module _ (task k : Task) (e : task ≡ k) where
   pub task_settling : (c : Catalogue) (r : Row) → settling c k r ≡ settling c task r
   task_settling c r = ap (λ (t : Task). settling c t r) (sym e)
 
-pub settling_rest : (c : Catalogue) (r : Row) (task : Task) → OneOf (0 ∷ 1 ∷ 2 ∷ 3 ∷ []) (tag_of the_type task)
-    → true ≡ settling c task r
-unfolding settling
-settling_rest c r (Attach z) h = refl
-settling_rest c r (Project n k) h = refl
-settling_rest c r (Minus s) h = refl
-settling_rest c r (Select k) h = refl
-settling_rest c r (Apply f k d) h = absurd (miss (0 ∷ 1 ∷ 2 ∷ 3 ∷ []) 4 tt h)
-settling_rest c r (Value k) h = absurd (miss (0 ∷ 1 ∷ 2 ∷ 3 ∷ []) 5 tt h)
+-- an answer that is there succeeds
+pub some_succeeds : (t : Option ℤ) → is_some t ≡ succeeds (tried t)
+unfolding succeeds
+some_succeeds (Some z) = refl
+some_succeeds None = refl
 
 pub settling_other :
     (c : Catalogue) (r : Row) (task : Task) → ((f : Function) (k d : ℕ) → task ≡ Apply f k d → ⊥)

@@ -5,14 +5,12 @@ ghost use Rattle.laws.specs.Rows.{row};
 ghost use Rattle.laws.specs.Attempt.{each};
 ghost use Rattle.meaning.specs.Catalogue.{catalogue_of};
 ghost use Rattle.tables.specs.Layout.{table_at, Inside, Owes};
-ghost use Rattle.items.specs.Answers.{tried};
-ghost use Rattle.tables.specs.Laying.{Settled, succeeds};
+ghost use Rattle.tables.specs.Laying.{Settled};
 ghost use Rattle.rowwise.specs.Tasks;
 
 use crate::Task;
-use items::Tried;
 use rows::{added, search};
-use tables::{Laid, Stand};
+use tables::{Laid, Stand, Unlaid};
 
 // The width of the rows that a task makes of rows of width w.
 fn wider(w: usize, task: Task) -> usize
@@ -20,16 +18,14 @@ fn wider(w: usize, task: Task) -> usize
     ensures { result ≡ Tasks.wider w task }
 {
     match task {
-        Task::Attach(_) => w + 1,
+        Task::Attach(_) | Task::Apply(_, _, _) | Task::Value(_) => w + 1,
         Task::Project(n, _) => n,
-        Task::Minus(_) => w,
-        Task::Select(_) => w,
-        Task::Apply(_, _, _) => w + 1,
-        Task::Value(_) => w + 1,
+        Task::Minus(_) | Task::Select(_) => w,
     }
 }
 
 // What the task makes of the row at a.
+// As it is: (d) a closure would want a contract that says what `Tasks.made` says of each case.
 pub fn lay_row(
     plan: &[u8],
     doc: &[u8],
@@ -58,23 +54,14 @@ pub fn lay_row(
     }
 }
 
-fn gives(t: Tried) -> bool
-    ensures { result ≡ succeeds (tried t) }
-{
-    match t {
-        Tried::Gives(_) => true,
-        Tried::Fails => false,
-    }
-}
-
 // Whether the task does not fail on the row at a.
 fn settles_row(doc: &[u8], rows: usize, work: &[i64], a: usize, w: usize, task: Task) -> bool
     requires { (a + w ≤ length work.now) × (10 * rows ≤ length doc.now) × Tasks.Worked w task }
     ensures { result ≡ Tasks.settling (catalogue_of doc.now rows) task (row work.now a w) }
 {
     match task {
-        Task::Apply(f, k, d) => gives(items::arith(f, work[a + k], work[a + d])),
-        Task::Value(k) => gives(items::value(doc, rows, work[a + k])),
+        Task::Apply(f, k, d) => items::arith(f, work[a + k], work[a + d]).is_some(),
+        Task::Value(k) => items::value(doc, rows, work[a + k]).is_some(),
         _ => true,
     }
 }
@@ -86,14 +73,11 @@ fn settles(doc: &[u8], rows: usize, work: &[i64], s: Stand, task: Task) -> bool
         ≡ all (Tasks.settling (catalogue_of doc.now rows) task) (table_at work.now s) }
 {
     let w = s.width;
-    let mut a = s.at;
-    let mut left = s.rows;
-    while 0 < left {
+    for i in 0..s.rows {
+        let a = s.at + i * w;
         if !settles_row(doc, rows, work, a, w, task) {
             return false;
         }
-        a += w;
-        left -= 1;
     }
     true
 }
@@ -121,21 +105,15 @@ fn each_row(
 {
     let w = s.width;
     let step = wider(w, task);
-    let mut a = s.at;
-    let mut left = s.rows;
     let mut top = at;
     let mut n: usize = 0;
-    while 0 < left {
-        let laid = lay_row(plan, doc, rows, task, work, a, w, top, room);
-        let Laid::Rows(m) = laid else {
-            return laid;
-        };
+    for i in 0..s.rows {
+        let a = s.at + i * w;
+        let m = lay_row(plan, doc, rows, task, work, a, w, top, room)?;
         top += m * step;
         n += m;
-        a += w;
-        left -= 1;
     }
-    Laid::Rows(n)
+    Ok(n)
 }
 
 // The row-wise operators: what the task makes of every row of s. Failing comes before room. Two passes over the rows
@@ -159,7 +137,7 @@ pub fn rowwise(
         work.old work.new result }
 {
     if !settles(doc, rows, work, s, task) {
-        return Laid::Fails;
+        return Err(Unlaid::Fails);
     }
     each_row(plan, doc, rows, work, s, task, at, room)
 }

@@ -5,8 +5,9 @@
 --     going_start         nothing has been done
 --     turn_fails, turn_full, turn_more     the next operator fails; it passes the room; it has laid its table
 --     going_end           at the end of the plan the tables that stand are those of the whole plan
---     last_stands, last_table_lem     the last of them: it is 3 wide, ends where the cells filled end, and has so many rows
-use Prim.Native.Nat.{ℕ, ◌+◌, ◌*◌, ◌-◌, ◌≤◌, ◌<◌}
+--     last_stands, last_table_lem     the last of them: it is 3 wide, ends where the cells filled end, and has so many
+--                                     rows
+use Prim.Native.Nat.{ℕ, ◌+◌, ◌*◌, ◌≤◌, ◌<◌}
 use mathlib.Core.Path.{◌≡◌, refl, sym, ap, ap₂, ◌∙◌}
 use mathlib.Core.List.{List, [], ◌∷◌, ◌++◌, append-nil}
 use mathlib.Core.Bool.{Bool}

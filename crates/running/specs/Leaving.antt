@@ -6,8 +6,9 @@
 --     operators_of bs         the operators of a plan that is sound
 --     AcceptedPlan bs        it is
 --     carried_out plan doc rows room      the outcome of the operators of a plan over a catalogue of so many rows
---     refused_at t at         the refusal of an operator at an offset
-use Rattle.std.specs.Prelude.{ℕ, ◌*◌, ◌-◌, ◌≤◌, ◌≡◌, List, [], ℤ, length, take}
+--     refused_at u at         the refusal of an operator at an offset, which laid no table for the reason u
+use Rattle.std.specs.Prelude.{ℕ, ◌*◌, ◌-◌, ◌≤◌, ◌≡◌, List, [], ℤ, length, take, Result, Ok, Err}
+use Rattle.codes.specs.declared.refusals.Stop.{Stop}
 use Rattle.laws.specs.Attempt.{Reading, refuses, reads, Work, full, failed, done}
 use Rattle.laws.specs.Lists.{gather}
 use Rattle.laws.specs.Rows.{flat}
@@ -16,10 +17,9 @@ use Rattle.meaning.specs.Catalogue.{catalogue_of}
 use Rattle.meaning.specs.Plan.{Placed, plan_read}
 use Rattle.meaning.specs.Run.{Filled, running}
 use Rattle.meaning.specs.World.{world_of}
-use Rattle.laying.specs.declared.Turned.{Turned}
-use Rattle.laying.specs.declared.Turned.TheVariants.{On, Full, Fails}
-use Rattle.running.specs.declared.Walked.{Walked}
-use Rattle.running.specs.declared.Walked.TheVariants as Walked
+use Rattle.tables.specs.declared.Unlaid.{Unlaid}
+use Rattle.tables.specs.declared.Unlaid.TheVariants.{Full, Fails}
+use Rattle.running.specs.declared.Tables.{Tables}
 
 pub record TellsFilled (f : Filled) (cells : List ℤ) (start rows filled : ℕ) : Type 0 where
   pub count : filled ≡ f.filled
@@ -28,10 +28,10 @@ pub record TellsFilled (f : Filled) (cells : List ℤ) (start rows filled : ℕ)
   pub tables : take filled cells ≡ gather flat f.tables
   pub within : filled ≤ length cells
 
-unfoldable pub Walks : Work Filled → List ℤ → Walked → Type 0
-Walks o cells (Walked.Tables start rows filled) = (f : Filled) × (o ≡ done f) × TellsFilled f cells start rows filled
-Walks o cells (Walked.Full p) = o ≡ full p
-Walks o cells (Walked.Fails p) = o ≡ failed p
+unfoldable pub Walks : Work Filled → List ℤ → Result Tables Stop → Type 0
+Walks o cells (Ok t) = (f : Filled) × (o ≡ done f) × TellsFilled f cells t.start t.rows t.filled
+Walks o cells (Err (Stop.Full p)) = o ≡ full p
+Walks o cells (Err (Stop.Failed p)) = o ≡ failed p
 
 unfoldable pub operators_in : Reading (List Placed) → List Placed
 operators_in (refuses n p) = []
@@ -46,8 +46,6 @@ AcceptedPlan bs = plan_read bs ≡ reads (operators_of bs)
 abbrev pub carried_out : List ℕ → List ℕ → (rows room : ℕ) → Work Filled
 carried_out plan doc rows room = running (world_of (catalogue_of doc rows)) room (operators_of plan) [] 0
 
--- an operator that laid its table is not refused: `On` is never asked
-abbrev pub refused_at : Turned → ℕ → Walked
-refused_at (On more) at = Walked.Fails at
-refused_at Full at = Walked.Full at
-refused_at Fails at = Walked.Fails at
+abbrev pub refused_at : Unlaid → ℕ → Stop
+refused_at Full at = Stop.Full at
+refused_at Fails at = Stop.Failed at

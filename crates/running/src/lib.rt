@@ -1,7 +1,7 @@
 // The work of the runner: the tables of a sound plan, laid end to end in the lent cells.
 #![tactic(auto)]
 
-ghost use Rattle.std.specs.Prelude.{◌≡◌, ◌≤◌, ◌<◌, length};
+ghost use Rattle.std.specs.Prelude.{◌≡◌, ◌≤◌, ◌<◌, length, MatchResult, Ok, Err};
 ghost use Rattle.meaning.specs.Calls.{room};
 ghost use Rattle.meaning.specs.Catalogue.{catalogue_of};
 ghost use Rattle.meaning.specs.World.{world_of};
@@ -9,34 +9,38 @@ ghost use Rattle.step_parts.specs.Steps.{Known, Ready};
 ghost use Rattle.running.specs.Leaving.{Walks, AcceptedPlan, carried_out, refused_at};
 
 use codes::limits::ROWS;
+use codes::refusals::Stop;
 use directory::stand;
 use laying::{Turned, lay};
 use operators::Top;
-use plan_records::Reading;
+use tables::Unlaid;
 
-// What the operators of a plan come to: the start and the rows of the last table and the cells filled; or the place of
-// refusal 6 or 7.
+// The tables of a plan: the start and the rows of the last one, and the cells that all fill.
 #[derive(Clone, Copy)]
-pub enum Walked {
-    Tables {
-        start: usize,
-        rows: usize,
-        filled: usize,
-    },
-    Full(usize),
-    Fails(usize),
+pub struct Tables {
+    pub start: usize,
+    pub rows: usize,
+    pub filled: usize,
 }
 
-// A refusal of the operator at an offset.
-fn refused(turned: Turned, at: usize) -> Walked
-    ensures { result ≡ refused_at turned at }
+// What the operators of a plan come to: their tables; or the place of refusal 6 or 7.
+pub type Walked = Result<Tables, Stop>;
+
+// The refusal of the operator at an offset.
+fn refused(unlaid: Unlaid, at: usize) -> Stop
+    ensures { result ≡ refused_at unlaid at }
 {
-    match turned {
-        Turned::Full => Walked::Full(at),
-        Turned::Fails => Walked::Fails(at),
-        // never: an operator that laid its table is not refused
-        Turned::On(_) => Walked::Fails(at),
+    match unlaid {
+        Unlaid::Full => Stop::Full(at),
+        Unlaid::Fails => Stop::Failed(at),
     }
+}
+
+// What the operator at an offset came to, with its refusal.
+fn located(turned: Turned, at: usize) -> Result<Top, Stop>
+    ensures { MatchResult turned (λ top. result ≡ Ok top) (λ unlaid. result ≡ Err (refused_at unlaid at)) }
+{
+    turned.map_err(|unlaid| refused(unlaid, at))
 }
 
 // Performs the operators of a sound plan in order. Each record is read once; what its operator costs is said there.
@@ -58,35 +62,30 @@ fn walk(
         × Ready doc.now rows from.old to.old }
     ensures { Walks (carried_out plan.now doc.now rows room) work.new result }
 {
-    let mut at: usize = 0;
-    let mut tables: usize = 0;
-    let mut filled: usize = 0;
+    let mut at = 0;
+    let mut top = Top {
+        tables: 0,
+        cells: 0,
+    };
+    // As it is: a record says where the next one begins, so no range counts them.
     while at < plan.len() {
-        let Reading::Sound(found) = plan_records::read(plan, at) else {
+        let Some(found) = plan_records::read(plan, at) else {
             // never: an accepted plan has a sound record at each offset before its end
-            return Walked::Fails(at);
+            return Err(Stop::Failed(at));
         };
         let operator = found.operator;
-        let top = Top {
-            tables,
-            cells: filled,
-        };
         let turned = lay(
             plan, doc, rows, operator, top, directory, work, order, aside, from, to, room,
         );
-        let Turned::On(more) = turned else {
-            return refused(turned, at);
-        };
-        tables = more.tables;
-        filled = more.cells;
+        top = located(turned, at)?;
         at = found.next;
     }
-    let last = stand(directory, tables - 1);
-    Walked::Tables {
+    let last = stand(directory, top.tables - 1);
+    Ok(Tables {
         start: last.at,
         rows: last.rows,
-        filled,
-    }
+        filled: top.cells,
+    })
 }
 
 // Runs a sound plan over a sound catalogue. The directory and what the operators work in are made here, once a run.

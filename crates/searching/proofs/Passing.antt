@@ -3,7 +3,7 @@
 --     front_none, back_none          nothing is passed, all is
 --     front_more, front_to, back_more    one look moves either end
 --     front_equal, back_end          what is before x is passed with those equal to it; no row stands behind the last
-use Prim.Native.Nat.{ℕ, ◌+◌, ◌-◌, ◌≤◌, ◌<◌}
+use Prim.Native.Nat.{ℕ, ◌+◌, ◌≤◌, ◌<◌}
 use mathlib.Core.Path.{◌≡◌, refl, sym, ap, ap₂, ◌∙◌, subst}
 use mathlib.Core.List.{List}
 use mathlib.Core.Bool.{Bool, true, false, not}

@@ -7,15 +7,14 @@ ghost use Rattle.tables.specs.Order.{climbs};
 
 use crate::Part;
 use tables::Stand;
+use tables::order::cell_at;
 
 // Whether the cell of row i stands before x; where `equal`, before it or equal to it.
 fn passes(work: &[i64], u: Stand, d: usize, i: usize, x: i64, equal: bool) -> bool
     requires { Inside (length work.now) u × (d < u.width) × (i < u.rows) }
     ensures { result ≡ passed equal x (get_or (column (table_at work.now u) d) i (pos 0)) }
 {
-    let w = u.width;
-    let a = u.at;
-    let cell = work[a + i * w + d];
+    let cell = cell_at(work, u, d, i);
     if equal {
         !cells::before(x, cell)
     } else {
@@ -29,7 +28,7 @@ fn probe(lo: usize, hi: usize, step: usize) -> usize
     ensures { (lo ≤ result) × (result < hi) }
 {
     let half = (hi - lo) / 2;
-    if step < half { lo + step } else { lo + half }
+    lo + step.min(half)
 }
 
 // The next step: twice as long and one more, up to the number of rows that a table can have.
@@ -48,6 +47,7 @@ fn search(work: &[i64], u: Stand, d: usize, x: i64, equal: bool, from: usize, to
     ensures front_2 { Front equal x (column (table_at work.now u) d) result
         × Back equal x (column (table_at work.now u) d) result }
 {
+    // As it is: the new form is no plainer. Each turn moves one of two bounds, and neither of them by one.
     let mut lo = from;
     let mut hi = to;
     let mut step: usize = 0;

@@ -4,18 +4,15 @@
 // shows the stored cases of `cases.bin`.
 #![tactic(auto)]
 
-ghost use Rattle.std.specs.Prelude.{◌+◌, ◌≤◌, ◌<◌, ◌≡◌, length, IfOk, OnErr};
-ghost use Rattle.shown_records.specs.Records.{Within};
+ghost use Rattle.std.specs.Prelude.{◌+◌, ◌≤◌, ◌<◌, length, IfOk};
 
-use reader::Typed;
-use runner::Ran;
-use shown_records::{Seen, ShownField};
+use codes::refusals::{Reason, Refusal};
+use shown_records::{Seen, Shown};
 use shown_tables::Place;
 use std::env::Env;
+use std::io;
 use std::io::Read;
 use std::rt::Files;
-use std::{fs, io};
-use translator::Translated;
 
 // A cell in the heading.
 fn show_cell(rt: &impl Print, cell: i64) -> io::Result<()> {
@@ -30,18 +27,14 @@ fn show_field(rt: &impl Print, plan: &[u8], at: usize, from: usize, end: usize) 
     requires { (at + 2 ≤ from) × (from < end) × (end ≤ length plan.now) }
     ensures { IfOk result (λ next. (from < next) × (next ≤ end)) }
 {
-    let field = shown_records::next_field(plan, at, from, end);
-    match field {
-        ShownField::Number(number, next) => {
-            cases::say(rt, " ", number)?;
-            Ok(next)
-        }
-        ShownField::Cell(cell, next) => {
-            show_cell(rt, cell)?;
-            Ok(next)
-        }
-        ShownField::Nothing => Ok(end),
+    let Some((shown, next)) = shown_records::next_field(plan, at, from, end) else {
+        return Ok(end);
+    };
+    match shown {
+        Shown::Number(number) => cases::say(rt, " ", number)?,
+        Shown::Cell(cell) => show_cell(rt, cell)?,
     }
+    Ok(next)
 }
 
 // The fields of the record from `at` up to `end`.
@@ -49,6 +42,7 @@ fn show_fields(rt: &impl Print, plan: &[u8], at: usize, end: usize) -> io::Resul
     requires { (at + 2 ≤ length plan.now) × (end ≤ length plan.now) }
 {
     let mut from = at + 2;
+    // As it is: (d) a field says where the next one begins, so no range counts them.
     while from < end {
         from = show_field(rt, plan, at, from, end)?;
     }
@@ -68,33 +62,24 @@ fn show_heading(rt: &impl Print, plan: &[u8], at: usize, end: usize, n: usize) -
     println!(rt)
 }
 
-// The row that begins at a cell.
-fn show_row(rt: &impl Print, work: &[i64], at: usize, width: usize) -> io::Result<()>
-    requires { (at + width ≤ length work.now) × (width ≤ 6) }
+// A row.
+fn show_row(rt: &impl Print, row: &[i64]) -> io::Result<()>
+    requires { length row.now ≤ 6 }
 {
     let mut text = [0u8; 223];
-    let end = at + width;
-    let n = shown_rows::put_row(&mut text, &work[at..end]);
+    let n = shown_rows::put_row(&mut text, row);
     rt.write_all(&text[0..n])
 }
 
 // The rows of a table.
-fn show_rows(
-    rt: &impl Print,
-    work: &[i64],
-    start: usize,
-    end: usize,
-    width: usize,
-) -> io::Result<()>
-    requires { (start ≤ end) × (end ≤ length work.now) × (1 ≤ width) × (width ≤ 6) }
+fn show_rows(rt: &impl Print, cells: &[i64], width: usize) -> io::Result<()>
+    requires { (1 ≤ width) × (width ≤ 6) }
 {
-    if start == end {
+    if cells.is_empty() {
         rt.write_all(b"     no rows\n")?;
     }
-    let mut at = start;
-    while width <= end - at {
-        show_row(rt, work, at, width)?;
-        at += width;
+    for row in cells.chunks_exact(width) {
+        show_row(rt, row)?;
     }
     Ok(())
 }
@@ -119,22 +104,10 @@ fn show_table(
 {
     let m = shown_tables::ask(plan, end, n, width, asked);
     let ran = runner::run(&asked[0..m], doc, work);
-    let place = shown_tables::place_of(ran, width, 8192);
-    match place {
-        Place::Cells { start, end } => show_rows(rt, work, start, end, width),
-        Place::Nothing => show_none(rt),
+    match shown_tables::place_of(ran, width, 8192) {
+        Some(Place { start, end }) => show_rows(rt, &work[start..end], width),
+        None => show_none(rt),
     }
-}
-
-// A record that does not suit the tables before it, or that cannot be read: the plan is refused there.
-fn show_refused(rt: &impl Print, plan: &[u8], at: usize, n: usize, seen: Seen) -> io::Result<()>
-    requires { Within (length plan.now) at seen }
-{
-    let Seen::Unsuited(next) = seen else {
-        return Ok(());
-    };
-    show_heading(rt, plan, at, next, n)?;
-    show_none(rt)
 }
 
 // The operators up to the offset `last`. A run in 32,768 cells holds tables of 8,192 and three columns of the last.
@@ -145,40 +118,33 @@ fn show_operators(rt: &impl Print, plan: &[u8], last: usize, doc: &[u8]) -> io::
     let mut work = [0i64; 32768];
     let mut widths = [0u8; 512];
     let mut at: usize = 0;
-    let mut n: usize = 0;
-    while n < 512 {
+    for n in 0..512 {
         if last < at {
             return Ok(());
         }
-        let seen = shown_records::look(plan, at, &widths, n);
-        let Seen::Suited { next, width } = seen else {
-            return show_refused(rt, plan, at, n, seen);
+        let Some(Seen { next, width }) = shown_records::look(plan, at, &widths, n) else {
+            return Ok(());
         };
         show_heading(rt, plan, at, next, n)?;
+        // A record that does not suit the tables before it: the plan is refused there.
+        let Some(width) = width else {
+            return show_none(rt);
+        };
         show_table(rt, plan, next, n, width, doc, &mut asked, &mut work)?;
         widths[n] = width as u8;
         at = next;
-        n += 1;
     }
     Ok(())
 }
 
 // A refusal, as chartask says it.
-fn show_refusal(rt: &impl Print, number: usize, place: usize) -> io::Result<()> {
-    cases::refused(rt, number, place)?;
-    println!(rt)
-}
-
-// What the run answers.
-fn show_tables_answer(rt: &impl Print, start: usize, rows: usize, filled: usize) -> io::Result<()> {
-    cases::say(rt, "start ", start)?;
-    cases::say(rt, " rows ", rows)?;
-    cases::say(rt, " cells ", filled)?;
+fn show_refusal(rt: &impl Print, refusal: Refusal) -> io::Result<()> {
+    cases::tell_refusal(rt, refusal)?;
     println!(rt)
 }
 
 // Runs a plan in 8,192 cells.
-fn run(plan: &[u8], doc: &[u8]) -> Ran {
+fn run(plan: &[u8], doc: &[u8]) -> runner::Ran {
     let mut work = [0i64; 8192];
     runner::run(plan, doc, &mut work)
 }
@@ -188,28 +154,19 @@ fn run(plan: &[u8], doc: &[u8]) -> Ran {
 fn show_plan(rt: &impl Print, plan: &[u8], doc: &[u8]) -> io::Result<()>
     requires { length plan.now ≤ 8192 }
 {
-    let ran = run(plan, doc);
-    match ran {
-        Ran::Tables {
-            start,
-            rows,
-            filled,
-        } => {
+    match run(plan, doc) {
+        Ok(tables) => {
             show_operators(rt, plan, plan.len(), doc)?;
-            show_tables_answer(rt, start, rows, filled)
+            println!(rt;
+                "start {} rows {} cells {}",
+                tables.start, tables.rows, tables.filled
+            )
         }
-        Ran::BadPlan(place) => {
-            show_operators(rt, plan, place, doc)?;
-            show_refusal(rt, 5, place)
-        }
-        Ran::BadCatalogue(place) => show_refusal(rt, 4, place),
-        Ran::Full(place) => {
-            show_operators(rt, plan, place, doc)?;
-            show_refusal(rt, 6, place)
-        }
-        Ran::Fails(place) => {
-            show_operators(rt, plan, place, doc)?;
-            show_refusal(rt, 7, place)
+        Err(refusal) => {
+            if refusal.reason != Reason::Catalogue {
+                show_operators(rt, plan, refusal.place, doc)?;
+            }
+            show_refusal(rt, refusal)
         }
     }
 }
@@ -225,15 +182,12 @@ fn show_first(rt: &impl Print, plan: &[u8], bytes: usize, doc: &[u8]) -> io::Res
 }
 
 // The plan of a query, or why it has none.
+// As it is: (d) this and `show_typed` call other calls and go on with other functions.
 fn show_query(rt: &impl Print, query: &[u8], doc: &[u8]) -> io::Result<()> {
     let mut plan = [0u8; 6144];
-    let translated = translator::translate(query, &mut plan);
-    match translated {
-        Translated::Plan { bytes, .. } => show_first(rt, &plan, bytes, doc),
-        Translated::Unsound(place) => show_refusal(rt, 1, place),
-        Translated::Excess(place) => show_refusal(rt, 2, place),
-        Translated::Unbound(place) => show_refusal(rt, 3, place),
-        Translated::Longer => show_refusal(rt, 8, 0),
+    match translator::translate(query, &mut plan) {
+        Ok(translated) => show_first(rt, &plan, translated.bytes, doc),
+        Err(refusal) => show_refusal(rt, refusal),
     }
 }
 
@@ -248,39 +202,24 @@ fn show_read(rt: &impl Print, query: &[u8], bytes: usize, doc: &[u8]) -> io::Res
 // The plan of a typed query, or why it has none.
 fn show_typed(rt: &impl Print, typed: &[u8], doc: &[u8]) -> io::Result<()> {
     let mut query = [0u8; 1024];
-    let read = reader::read(typed, &mut query);
-    match read {
-        Typed::Records { bytes, .. } => show_read(rt, &query, bytes, doc),
-        Typed::Outside(place) => show_refusal(rt, 9, place),
-        Typed::Excess(place) => show_refusal(rt, 2, place),
-        Typed::Unbound(place) => show_refusal(rt, 3, place),
-        Typed::Longer => show_refusal(rt, 8, 0),
-    }
-}
-
-// Reads a file to the start of `space`, no further than that is long, and answers how many bytes it read. A missing
-// file is empty.
-fn load(rt: &impl Files, path: &str, space: &mut [u8]) -> io::Result<usize>
-    ensures within { IfOk result (λ n. n ≤ length space.new) }
-    ensures kept { OnErr result (length space.new ≡ length space.old) }
-{
-    match fs::open(rt, path) {
-        Ok(mut file) => cases::read_full(&mut file, space),
-        Err(_) => Ok(0),
+    match reader::read(typed, &mut query) {
+        Ok(read) => show_read(rt, &query, read.bytes, doc),
+        Err(refusal) => show_refusal(rt, refusal),
     }
 }
 
 // The word `tables`.
+// As it is: (d) this and `show_plan_file` lend other room and go on with other functions.
 fn show_query_file(rt: &(impl Files + Print), doc: &[u8]) -> io::Result<()> {
     let mut query = [0u8; 1024];
-    let n = load(rt, "query.bin", &mut query)?;
+    let n = files::load(rt, "query.bin", &mut query)?;
     show_query(rt, &query[0..n], doc)
 }
 
 // The word `typed`. A text has at most 4,096 bytes; a byte more is lent, so that a longer one is seen and not cut.
 fn show_typed_file(rt: &(impl Files + Print + Eprint), doc: &[u8]) -> io::Result<()> {
     let mut typed = [0u8; 4097];
-    let n = load(rt, "query.xq", &mut typed)?;
+    let n = files::load(rt, "query.xq", &mut typed)?;
     if 4096 < n {
         return eprintln!(rt; "showing: query.xq is longer than 4096 bytes");
     }
@@ -290,7 +229,7 @@ fn show_typed_file(rt: &(impl Files + Print + Eprint), doc: &[u8]) -> io::Result
 // The word `plan`. 512 operators have no more than 6,144 bytes, so a longer plan is refused.
 fn show_plan_file(rt: &(impl Files + Print), doc: &[u8]) -> io::Result<()> {
     let mut plan = [0u8; 8192];
-    let n = load(rt, "plan.bin", &mut plan)?;
+    let n = files::load(rt, "plan.bin", &mut plan)?;
     show_plan(rt, &plan[0..n], doc)
 }
 
@@ -305,7 +244,7 @@ enum Source {
 // Shows it over the catalogue in `doc.bin`.
 fn show_files(rt: &(impl Files + Print + Eprint), source: Source) -> io::Result<()> {
     let mut doc = [0u8; 20490];
-    let m = load(rt, "doc.bin", &mut doc)?;
+    let m = files::load(rt, "doc.bin", &mut doc)?;
     match source {
         Source::Query => show_query_file(rt, &doc[0..m]),
         Source::Text => show_typed_file(rt, &doc[0..m]),
@@ -334,22 +273,12 @@ fn show_case(rt: &impl Print, file: &mut impl Read, word: usize) -> io::Result<(
     }
 }
 
-// The stored cases end where the file does; there are fewer than 10,000.
+// The stored cases. There are fewer than 10,000.
 fn show_cases(rt: &(impl Files + Print + Eprint)) -> io::Result<()> {
-    let Some(mut file) = cases::opened(rt, "cases.bin", "")? else {
-        return Ok(());
-    };
-    let mut number: usize = 1;
-    while number < 10000 {
-        let word = cases::next_byte(&mut file)?;
-        if word == 0 {
-            return Ok(());
-        }
+    cases::each_part(rt, "cases.bin", "", 9999, |file, number, word| {
         println!(rt; "case {number}")?;
-        show_case(rt, &mut file, word)?;
-        number += 1;
-    }
-    Ok(())
+        show_case(rt, file, word)
+    })
 }
 
 fn main(rt: HostRuntime) -> io::Result<()> {

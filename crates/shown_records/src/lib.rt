@@ -6,79 +6,67 @@ ghost use Rattle.shown_records.specs.Records.{Within, size_of, field_at, Ahead};
 
 use cells::{byte, fits, int8, word2};
 use codes::marks::{RA, RD, RJ, RU, RX};
-use plan_records::Reading;
-use plan_widths::Width;
 
-// What stands at an offset: a record and the offset after it, with the width of its table; a record that does
-// not suit the tables before it; or no record.
+// A record: the offset after it, and the width of its table; none where it does not suit the tables before it.
 #[derive(Clone, Copy)]
-pub enum Seen {
-    Suited { next: usize, width: usize },
-    Unsuited(usize),
-    Nothing,
+pub struct Seen {
+    pub next: usize,
+    pub width: Option<usize>,
 }
 
-// A field: a number or a cell, and the offset after it; or that the record has no more.
+// What a field shows: a number or a cell.
 #[derive(Clone, Copy)]
-pub enum ShownField {
-    Number(usize, usize),
-    Cell(i64, usize),
-    Nothing,
+pub enum Shown {
+    Number(usize),
+    Cell(i64),
 }
 
-// The record of operator n, whose table is made of tables whose widths stand first in a lent slice.
-pub fn look(plan: &[u8], at: usize, widths: &[u8], n: usize) -> Seen
+// The record of operator n, whose table is made of tables whose widths stand first in a lent slice; none where no
+// record stands. Widths are 1 to 6, so no operator makes a table of another.
+pub fn look(plan: &[u8], at: usize, widths: &[u8], n: usize) -> Option<Seen>
     requires { n ≤ length widths.now }
     ensures { Within (length plan.now) at result }
 {
     if !fits(plan, at, 2) {
-        return Seen::Nothing;
+        return None;
     }
-    let Reading::Sound(found) = plan_records::read(plan, at) else {
-        return Seen::Nothing;
-    };
-    let operator = found.operator;
-    let next = found.next;
-    let Width::Is(width) = plan_widths::width_of(plan, operator, widths, n) else {
-        return Seen::Unsuited(next);
-    };
-    match width {
-        1..=6 => Seen::Suited { next, width },
-        // Widths are 1 to 6, so no operator makes a table of another.
-        _ => Seen::Unsuited(next),
-    }
+    let found = plan_records::read(plan, at)?;
+    let width = plan_widths::width_of(plan, found.operator, widths, n);
+    Some(Seen {
+        next: found.next,
+        width: width.filter(|w| matches!(w, 1..=6)),
+    })
 }
 
 // How many bytes a field has that begins so many bytes after its record.
+#[tactic(auto, unfolding(crate::specs::Records::size_of))]
 fn size(mark: usize, after: usize) -> usize
     ensures { result ≡ size_of mark after }
 {
-    if after == 2 {
-        return 2;
-    }
-    match mark {
-        RA => 8,
-        RU => 2,
-        RD => 2,
-        RJ => { if after == 5 { 2 } else { 1 } }
-        RX => { if after == 6 { 2 } else { 1 } }
+    match (mark, after) {
+        (_, 2) => 2,
+        (RA, _) => 8,
+        (RU | RD, _) => 2,
+        (RJ, 5) | (RX, 6) => 2,
         _ => 1,
     }
 }
 
-// The field at an offset, of the record that stands at `at` and ends at `end`.
-pub fn next_field(plan: &[u8], at: usize, from: usize, end: usize) -> ShownField
+// The field at an offset, of the record that stands at `at` and ends at `end`, and the offset after it; none where
+// the record has no more.
+#[tactic(auto, using(crate::proofs::Fielding::size_some))]
+pub fn next_field(plan: &[u8], at: usize, from: usize, end: usize) -> Option<(Shown, usize)>
     requires { (at + 2 ≤ from) × (from < end) × (end ≤ length plan.now) }
     ensures { (result ≡ field_at plan.now at from end) × Ahead from end result }
 {
     let n = size(word2(plan, at), from - at);
     if end - from < n {
-        return ShownField::Nothing;
+        return None;
     }
-    let next = from + n;
-    match n {
-        8 => ShownField::Cell(int8(plan, from), next),
-        2 => ShownField::Number(word2(plan, from), next),
-        _ => ShownField::Number(byte(plan, from), next),
-    }
+    let shown = match n {
+        8 => Shown::Cell(int8(plan, from)),
+        2 => Shown::Number(word2(plan, from)),
+        _ => Shown::Number(byte(plan, from)),
+    };
+    Some((shown, from + n))
 }

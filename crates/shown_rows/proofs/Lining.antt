@@ -3,6 +3,7 @@
 --     right_long, right_short     a word at the right of its column
 --     column_is, taken_short      a cell's word, put into bytes of its own
 --     columns_more, row_whole     one cell more; the whole row
+use Rattle.std.specs.Prelude.{Option, Some, None}
 use Prim.Native.Nat.{ℕ, ◌+◌, ◌-◌, ◌≤◌, ◌<◌}
 use mathlib.Core.Path.{◌≡◌, sym, ap, ◌∙◌}
 use mathlib.Core.List.{List, [], ◌∷◌, ◌++◌, append-nil}
@@ -16,8 +17,6 @@ use Rattle.cells.specs.Cell.{held}
 use Rattle.cells.specs.declared.Rank.{Rank}
 use Rattle.cells.specs.declared.Item.{Item}
 use Rattle.cells.specs.declared.Item.TheVariants.{Integer, Truth, Node}
-use Rattle.cells.specs.declared.Held.{Held}
-use Rattle.cells.specs.declared.Held.TheVariants as Held
 use Rattle.laws.specs.Lists.{gather}
 use Rattle.laws.proofs.Filters.{gather_append}
 use Rattle.pen.specs.Penned.{Pens}
@@ -27,27 +26,27 @@ use Rattle.lines.proofs.Putting.{put_penned, put_text}
 use Rattle.shown_rows.specs.Rows.{truth_word, held_text, cell_text, at_right, column, row_line}
 
 -- the text of a cell: h is what it holds, read from v
-module _ (cell v : ℤ) (h : Held) (e : v ≡ cell) (d : h ≡ held v) where
+module _ (cell v : ℤ) (h : Option Item) (e : v ≡ cell) (d : h ≡ held v) where
   of_held : held_text h ≡ cell_text cell
   unfolding cell_text
   of_held = ap held_text (d ∙ ap held e)
 
-  pub cell_stray : h ≡ Held.Stray → [] ≡ cell_text cell
+  pub cell_stray : h ≡ None → [] ≡ cell_text cell
   unfolding held_text
   cell_stray f = sym (ap held_text f) ∙ of_held
 
-  module _ (i : Item) (f : h ≡ Held.Item i) where
+  module _ (i : Item) (f : h ≡ Some i) where
     pub cell_integer : (y z : ℤ) → y ≡ z → i ≡ Integer z → signed y ≡ cell_text cell
     unfolding held_text
-    cell_integer y z k g = ap signed k ∙ sym (ap held_text (f ∙ ap Held.Item g)) ∙ of_held
+    cell_integer y z k g = ap signed k ∙ sym (ap held_text (f ∙ ap Some g)) ∙ of_held
 
     pub cell_truth : (b : Bool) → i ≡ Truth b → truth_word b ≡ cell_text cell
     unfolding held_text
-    cell_truth b g = sym (ap held_text (f ∙ ap Held.Item g)) ∙ of_held
+    cell_truth b g = sym (ap held_text (f ∙ ap Some g)) ∙ of_held
 
     pub cell_node : (r : Rank) → i ≡ Node r → node_word ++ decimal r.0 ≡ cell_text cell
     unfolding held_text
-    cell_node r g = sym (ap held_text (f ∙ ap Held.Item g)) ∙ of_held
+    cell_node r g = sym (ap held_text (f ∙ ap Some g)) ∙ of_held
 
 -- at the right of a column
 pub right_long : (w : List ℕ) → 12 ≤ length w → w ≡ at_right w

@@ -5,11 +5,10 @@
 --     at_right w        a word at the right of 12 characters; one that is longer stands alone
 --     column z         a cell in its column
 --     row_line zs       the cells of a row in their columns, and the line's end
-use Rattle.std.specs.Prelude.{List, [], ◌∷◌, ◌++◌, Bool, true, false, ℤ, length, drop, replicate}
+use Rattle.std.specs.Prelude.{List, [], ◌∷◌, ◌++◌, Bool, true, false, ℤ, length, drop, replicate, Option, Some, None}
+use Rattle.cells.specs.declared.Item.{Item}
 use Rattle.cells.specs.Cell.{held}
 use Rattle.cells.specs.declared.Item.TheVariants.{Integer, Truth, Node}
-use Rattle.cells.specs.declared.Held.{Held}
-use Rattle.cells.specs.declared.Held.TheVariants.{Item, Stray}
 use Rattle.laws.specs.Lists.{gather}
 use Rattle.pen.specs.Decimal.{decimal, signed}
 use Rattle.lines.specs.Text.{Text, node_word, line_end}
@@ -18,11 +17,11 @@ abbrev pub truth_word : Bool → Text
 truth_word false = 102 ∷ 97 ∷ 108 ∷ 115 ∷ 101 ∷ []
 truth_word true = 116 ∷ 114 ∷ 117 ∷ 101 ∷ []
 
-unfoldable pub held_text : Held → Text
-held_text (Item (Integer z)) = signed z
-held_text (Item (Truth b)) = truth_word b
-held_text (Item (Node r)) = node_word ++ decimal r.0
-held_text Stray = []
+unfoldable pub held_text : Option Item → Text
+held_text (Some (Integer z)) = signed z
+held_text (Some (Truth b)) = truth_word b
+held_text (Some (Node r)) = node_word ++ decimal r.0
+held_text None = []
 
 unfoldable pub cell_text : ℤ → Text
 cell_text z = held_text (held z)

@@ -8,9 +8,10 @@ ghost use Rattle.lines.specs.Text.{node_word};
 ghost use Rattle.lines.specs.Placed.{Put};
 ghost use Rattle.shown_rows.specs.Rows.{truth_word, cell_text, at_right, column, row_line};
 
-use cells::{Held, Item};
+use cells::Item;
 
 // `false` or `true`.
+// As it is: (d) the words are others than those of `lines`, and so is the room.
 fn put_truth(text: &mut [u8], at: usize, b: bool) -> usize
     requires { at + 25 < 2 ^ 64 }
     ensures { Pens at (truth_word b) text.old text.new result × (result ≤ at + 25) }
@@ -36,14 +37,11 @@ pub fn put_cell(text: &mut [u8], at: usize, cell: i64) -> usize
     requires { at + 25 < 2 ^ 64 }
     ensures { Pens at (cell_text cell) text.old text.new result × (result ≤ at + 25) }
 {
-    let held = cells::item_of(cell);
-    let Held::Item(item) = held else {
-        return at;
-    };
-    match item {
-        Item::Integer(z) => pen::put_signed(text, at, z),
-        Item::Truth(b) => put_truth(text, at, b),
-        Item::Node(r) => put_node(text, at, r.0),
+    match cells::item_of(cell) {
+        Some(Item::Integer(z)) => pen::put_signed(text, at, z),
+        Some(Item::Truth(b)) => put_truth(text, at, b),
+        Some(Item::Node(rank)) => put_node(text, at, rank.0),
+        None => at,
     }
 }
 
@@ -57,8 +55,8 @@ fn put_right(text: &mut [u8], at: usize, word: &[u8]) -> usize
     if 12 <= n {
         return pen::put_word(text, at, word);
     }
-    let blank = [32u8; 12];
-    let a = pen::put_word(text, at, &blank[n..12]);
+    let blanks = [b' '; 12];
+    let a = pen::put_word(text, at, &blanks[n..]);
     pen::put_word(text, a, word)
 }
 
@@ -78,10 +76,8 @@ pub fn put_row(text: &mut [u8], row: &[i64]) -> usize
     ensures { Put text.old text.new 0 (row_line row.now) result }
 {
     let mut end: usize = 0;
-    let mut i: usize = 0;
-    while i < row.len() {
-        end = put_column(text, end, row[i]);
-        i += 1;
+    for cell in row {
+        end = put_column(text, end, *cell);
     }
     pen::put(text, end, b'\n')
 }

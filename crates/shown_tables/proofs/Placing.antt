@@ -3,23 +3,20 @@
 --     placed_past, placed_within  cells past the room, or in it
 --     none_answered               a refusal leaves no table
 --     past_end .. before_place    what an answer says, test by test
+use Rattle.std.specs.Prelude.{Option, Some, None, Result, Ok, Err}
 use Prim.Native.Nat.{ℕ, ◌-◌, ◌*◌, ◌/◌, ◌%◌, ◌≤◌, ◌<◌}
-use mathlib.Core.Path.{◌≡◌, refl, sym, ap, ◌∙◌}
+use mathlib.Core.Path.{◌≡◌, sym, ap, ◌∙◌}
 use mathlib.Core.List.{List, [], ◌∷◌, ◌++◌}
 use native.Mathlib.Omega.{arith}
 use borrow.Author.Tests.{lt-ltb, le-ltb, eq-eqb, ne_eqb}
-use denote.Enum.Declared.{tag_of}
-use types.Run.{OneOf, miss, hit}
 use lib.ListN.{take}
 use Rattle.cells.specs.Bytes.{bytes_of}
 use Rattle.meaning.specs.Written.{operator_bytes}
-use Rattle.runner.specs.declared.Ran.{Ran}
-use Rattle.runner.specs.declared.Ran.TheVariants.{Tables, BadPlan, BadCatalogue, Full, Fails}
-use Rattle.runner.specs.contracts.Ran.{the_type}
+use Rattle.codes.specs.declared.refusals.Refusal.{Refusal}
+use Rattle.running.specs.declared.Tables.{Tables}
 use Rattle.runner.specs.Answers.{answered}
 use Rattle.shown_tables.specs.declared.Place.{Place}
-use Rattle.shown_tables.specs.declared.Place.TheVariants.{Cells, Nothing}
-use Rattle.shown_tables.specs.Places.{asked_plan, placed, place_of, place_in}
+use Rattle.shown_tables.specs.Places.{asked_plan, cells, placed, place_of, place_in}
 
 -- The plan
 
@@ -39,57 +36,48 @@ module _ (bs : List ℕ) (end n w k : ℕ) (e : k ≡ end) where
 
 -- The cells
 
-pub placed_past : (s e room : ℕ) → room < e → Nothing ≡ placed s e room
+pub placed_past : (s e room : ℕ) → room < e → None ≡ placed s e room
 unfolding placed
 placed_past s e room h = rw (lt-ltb room e h)
 
-pub placed_within : (s e room : ℕ) → e ≤ room → Cells s e ≡ placed s e room
+pub placed_within : (s e room : ℕ) → e ≤ room → Some (cells s e) ≡ placed s e room
 unfolding placed
 placed_within s e room h = rw (le-ltb room e h)
 
--- what is no table is a refusal
-pub not_tables :
-    (ran : Ran) → ((s r e : ℕ) → ran ≡ Tables s r e → ⊥) → OneOf (1 ∷ 2 ∷ 3 ∷ 4 ∷ []) (tag_of the_type ran)
-not_tables (Tables s r e) h = absurd (h s r e refl)
-not_tables (BadPlan p) h = hit (1 ∷ 2 ∷ 3 ∷ 4 ∷ []) 1 tt
-not_tables (BadCatalogue p) h = hit (1 ∷ 2 ∷ 3 ∷ 4 ∷ []) 2 tt
-not_tables (Full p) h = hit (1 ∷ 2 ∷ 3 ∷ 4 ∷ []) 3 tt
-not_tables (Fails p) h = hit (1 ∷ 2 ∷ 3 ∷ 4 ∷ []) 4 tt
-
-pub none_answered : (ran : Ran) (w room : ℕ) → OneOf (1 ∷ 2 ∷ 3 ∷ 4 ∷ []) (tag_of the_type ran)
-    → Nothing ≡ place_in (answered ran) w room
+pub none_answered : (ran : Result Tables Refusal) (r : Refusal) (w room : ℕ) → ran ≡ Err r
+    → None ≡ place_in (answered ran) w room
 unfolding answered place_in
-none_answered (Tables s r e) w room h = absurd (miss (1 ∷ 2 ∷ 3 ∷ 4 ∷ []) 0 tt h)
-none_answered (BadPlan p) w room h = refl
-none_answered (BadCatalogue p) w room h = refl
-none_answered (Full p) w room h = refl
-none_answered (Fails p) w room h = refl
+none_answered ran r w room e = rw e
 
-module _ (ran : Ran) (s r e w room : ℕ) (t : ran ≡ Tables s r e) where
-  answered_place : (p : Place) → p ≡ place_of s r e w room → p ≡ place_in (answered ran) w room
+module _ (ran : Result Tables Refusal) (t : Tables) (w room : ℕ) (d : ran ≡ Ok t) where
+  answered_place : (p : Option Place) → p ≡ place_of t.start t.rows t.filled w room → p ≡ place_in (answered ran) w room
   unfolding answered place_in
-  answered_place p h = h ∙ sym (ap (λ (x : Ran). place_in (answered x) w room) t)
+  answered_place p h = h ∙ sym (ap (λ (x : Result Tables Refusal). place_in (answered x) w room) d)
 
-  pub past_end : e < s → Nothing ≡ place_in (answered ran) w room
+  pub past_end : t.filled < t.start → None ≡ place_in (answered ran) w room
   unfolding place_of
-  past_end h = answered_place Nothing (rw (lt-ltb e s h))
+  past_end h = answered_place None (rw (lt-ltb t.filled t.start h))
 
-  module _ (h : s ≤ e) where
-    pub last_place : (p : Place) → w ≡ 3 → p ≡ placed s e room → p ≡ place_in (answered ran) w room
+  module _ (h : t.start ≤ t.filled) where
+    pub last_place : (p : Option Place) → w ≡ 3 → p ≡ placed t.start t.filled room → p ≡ place_in (answered ran) w room
     unfolding place_of
-    last_place p k q = answered_place p (q ∙ rw (le-ltb e s h, eq-eqb w 3 k))
+    last_place p k q = answered_place p (q ∙ rw (le-ltb t.filled t.start h, eq-eqb w 3 k))
 
     module _ (k : w ≡ 3 → ⊥) where
-      pub many_rows : room < r → Nothing ≡ place_in (answered ran) w room
+      pub many_rows : room < t.rows → None ≡ place_in (answered ran) w room
       unfolding place_of
-      many_rows g = answered_place Nothing (rw (le-ltb e s h, ne_eqb w 3 k, lt-ltb room r g))
+      many_rows g = answered_place None (rw (le-ltb t.filled t.start h, ne_eqb w 3 k, lt-ltb room t.rows g))
 
-      module _ (g : r ≤ room) where
-        pub past_start : s < r * w → Nothing ≡ place_in (answered ran) w room
+      module _ (g : t.rows ≤ room) where
+        pub past_start : t.start < t.rows * w → None ≡ place_in (answered ran) w room
         unfolding place_of
-        past_start l = answered_place Nothing (rw (le-ltb e s h, ne_eqb w 3 k, le-ltb room r g, lt-ltb s (r * w) l))
+        past_start l =
+            answered_place None
+            (rw (le-ltb t.filled t.start h, ne_eqb w 3 k, le-ltb room t.rows g, lt-ltb t.start (t.rows * w) l))
 
-        pub before_place : (p : Place) → r * w ≤ s → p ≡ placed (s - r * w) s room → p ≡ place_in (answered ran) w room
+        pub before_place : (p : Option Place) → t.rows * w ≤ t.start → p ≡ placed (t.start - t.rows * w) t.start room
+            → p ≡ place_in (answered ran) w room
         unfolding place_of
         before_place p l q =
-            answered_place p (q ∙ rw (le-ltb e s h, ne_eqb w 3 k, le-ltb room r g, le-ltb s (r * w) l))
+            answered_place p
+            (q ∙ rw (le-ltb t.filled t.start h, ne_eqb w 3 k, le-ltb room t.rows g, le-ltb t.start (t.rows * w) l))

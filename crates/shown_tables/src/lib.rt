@@ -8,11 +8,11 @@ ghost use Rattle.shown_tables.specs.Places.{asked_plan, place_in, placed, PlaceS
 
 use runner::Ran;
 
-// The cells of a table, from `start` up to `end`; or that there is no such table.
+// The cells of a table, from `start` up to `end`.
 #[derive(Clone, Copy)]
-pub enum Place {
-    Cells { start: usize, end: usize },
-    Nothing,
+pub struct Place {
+    pub start: usize,
+    pub end: usize,
 }
 
 // Writes the plan that ends with operator n, whose record ends at `end`. The last table of a plan has width 3:
@@ -30,43 +30,38 @@ pub fn ask(plan: &[u8], end: usize, n: usize, width: usize, asked: &mut [u8]) ->
 }
 
 // The cells from `start` up to `end`, where all up to there are in the room.
-fn within(start: usize, end: usize, room: usize) -> Place
+fn within(start: usize, end: usize, room: usize) -> Option<Place>
     requires { start ≤ end }
     ensures { (result ≡ placed start end room) × PlaceStands room result }
 {
     if room < end {
-        return Place::Nothing;
+        return None;
     }
-    Place::Cells { start, end }
+    Some(Place { start, end })
 }
 
 // Where the table of that width stands after the run of that plan, if all tables up to it are in the room. Its
 // three columns, where they were asked for, have as many rows and stand directly behind it. The runner lays tables
 // end to end, so the tests that find no place for it find none that is missing.
-pub fn place_of(ran: Ran, width: usize, room: usize) -> Place
+pub fn place_of(ran: Ran, width: usize, room: usize) -> Option<Place>
     requires { (width ≤ 6) × (room ≤ 65536) }
     ensures { (result ≡ place_in (answered ran) width room) × PlaceStands room result }
 {
-    let Ran::Tables {
-        start,
-        rows,
-        filled,
-    } = ran
-    else {
-        return Place::Nothing;
+    let Ok(tables) = ran else {
+        return None;
     };
-    if filled < start {
-        return Place::Nothing;
+    if tables.filled < tables.start {
+        return None;
     }
     if width == 3 {
-        return within(start, filled, room);
+        return within(tables.start, tables.filled, room);
     }
-    if room < rows {
-        return Place::Nothing;
+    if room < tables.rows {
+        return None;
     }
-    let cells = rows * width;
-    if start < cells {
-        return Place::Nothing;
+    let cells = tables.rows * width;
+    if tables.start < cells {
+        return None;
     }
-    within(start - cells, start, room)
+    within(tables.start - cells, tables.start, room)
 }

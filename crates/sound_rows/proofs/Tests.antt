@@ -1,9 +1,11 @@
 -- The definitions of a row that is sound, test by test, as this crate's functions decide it.
 --     own_deep, own_far, own_kind     a row's own fields
 --     own_read                        .. by the numbers that were read
---     row_none, row_some              a row that was read, by whether it is sound
+--     row_none, row_found             a row that was read, by whether it is sound
 --     row_read, row_unread            whether a row is sound, by what was read
 --     row_cut, row_mark, row_own      a row
+use Rattle.std.specs.Prelude.{Option, Some, None}
+use Rattle.std.specs.Bool.{then_some}
 use Prim.Native.Nat.{ℕ, ◌*◌, ◌≤◌, ◌<◌}
 use native.Mathlib.Omega.{arith}
 use mathlib.Core.Bool.{Bool, true, false}
@@ -18,8 +20,6 @@ use Rattle.meaning.specs.Catalogue.{catalogue_of, mark_dn, own_sound, row_sound}
 use Rattle.doc_rows.specs.Fields.{size_at, level_at, kind_at, prop_at}
 use Rattle.sound_rows.specs.Answers.{level_of}
 use Rattle.sound_rows.specs.Kinds.{kind_sound}
-use Rattle.sound_rows.specs.declared.ReadRow.{ReadRow}
-use Rattle.sound_rows.specs.declared.ReadRow.TheVariants.{Level, Unsound}
 
 module _ (doc : List ℕ) (r most n : ℕ) where
   pub own_deep : most < level_at doc r → false ≡ own_sound (catalogue_of doc n) r most
@@ -45,17 +45,18 @@ pub row_none : {b : Bool} (l : ℕ) → false ≡ b → fails ≡ provided b (gi
 unfolding provided
 row_none l e = rw (sym e)
 
-pub row_some : {b : Bool} {k l : ℕ} → b ≡ true → k ≡ l → gives k ≡ provided b (gives l)
-unfolding provided
-row_some e d = rw (e, d)
+pub row_found : {b t : Bool} {k l : ℕ} → b ≡ t → k ≡ l → level_of (then_some b k) ≡ provided t (gives l)
+unfolding level_of provided
+row_found {b = true} e d = rw (sym e, d)
+row_found {b = false} e d = rw (sym e)
 
-pub row_read : (b : Bool) (l : ℕ) {k : ℕ} (a : ReadRow) → level_of a ≡ provided b (gives l) → a ≡ Level k
+pub row_read : (b : Bool) (l : ℕ) {k : ℕ} (a : Option ℕ) → level_of a ≡ provided b (gives l) → a ≡ Some k
     → (b ≡ true) × (k ≡ l)
 unfolding provided level_of
 row_read true l a e d = (refl, gives_same (sym (ap level_of d) ∙ e))
 row_read false l a e d = absurd (fails_gives _ (sym e ∙ ap level_of d))
 
-pub row_unread : (b : Bool) (l : ℕ) (a : ReadRow) → level_of a ≡ provided b (gives l) → a ≡ Unsound → b ≡ false
+pub row_unread : (b : Bool) (l : ℕ) (a : Option ℕ) → level_of a ≡ provided b (gives l) → a ≡ None → b ≡ false
 unfolding provided level_of
 row_unread true l a e d = absurd (fails_gives _ (sym (ap level_of d) ∙ e))
 row_unread false l a e d = refl

@@ -14,25 +14,19 @@ use codes::limits::DEEPEST;
 // The mark of a row.
 const DN: u16 = 0x444E;
 
-// The level of a sound row, or that the row is unsound.
-#[derive(Clone, Copy)]
-pub enum ReadRow {
-    Level(usize),
-    Unsound,
-}
-
 // Whether a number is a name number, 0 to 65535.
 fn is_name(prop: i32) -> bool
     ensures { result ≡ Catalogue.is_name prop }
 {
-    if prop < 0 { false } else { prop < 65536 }
+    0 <= prop && prop < 65536
 }
 
 // A text covers no rows and is no root.
+#[tactic(auto, unfolding(crate::specs::Kinds::text_sound))]
 fn text_sound(size: usize, level: usize) -> bool
     ensures { result ≡ Kinds.text_sound size level }
 {
-    if size == 0 { 1 <= level } else { false }
+    size == 0 && 1 <= level
 }
 
 // An element has a name; a text is sound; there is no other kind.
@@ -48,33 +42,27 @@ fn kind_sound(size: usize, level: usize, kind: usize, prop: i32) -> bool
 
 // The row of a rank that is all there and has its mark, read: sound in its own fields, where its level may be at most
 // `most`.
-fn own_row(doc: &[u8], r: Rank, most: usize) -> ReadRow
+fn own_row(doc: &[u8], r: Rank, most: usize) -> Option<usize>
     requires { 10 * r.0 + 10 ≤ length doc.now }
     ensures { Answers.level_of result
         ≡ provided (Catalogue.own_sound (Catalogue.catalogue_of doc.now r.0) r.0 most)
         (gives (Fields.level_at doc.now r.0)) }
 {
     let l = doc_rows::level(doc, r);
-    if most < l {
-        return ReadRow::Unsound;
+    if most < l || DEEPEST < l {
+        return None;
     }
-    if DEEPEST < l {
-        return ReadRow::Unsound;
-    }
-    if kind_sound(
+    kind_sound(
         doc_rows::size(doc, r),
         l,
         doc_rows::kind(doc, r),
         doc_rows::prop(doc, r),
-    ) {
-        ReadRow::Level(l)
-    } else {
-        ReadRow::Unsound
-    }
+    )
+    .then_some(l)
 }
 
 // The row of a rank, read: it is all there, has its mark, and is sound in its own fields.
-pub fn read_row(doc: &[u8], r: Rank, most: usize) -> ReadRow
+pub fn read_row(doc: &[u8], r: Rank, most: usize) -> Option<usize>
     requires { 10 * r.0 ≤ length doc.now }
     ensures { Answers.level_of result
         ≡ provided (Catalogue.row_sound doc.now r.0 most)
@@ -82,11 +70,11 @@ pub fn read_row(doc: &[u8], r: Rank, most: usize) -> ReadRow
 {
     let at = 10 * r.0;
     if !cells::fits(doc, at, 10) {
-        return ReadRow::Unsound;
+        return None;
     }
     let mark = cells::mark(doc, at);
     match mark {
         DN => own_row(doc, r, most),
-        0..=0x444D | 0x444F..=0xFFFF => ReadRow::Unsound,
+        0..=0x444D | 0x444F..=0xFFFF => None,
     }
 }

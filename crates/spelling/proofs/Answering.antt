@@ -1,79 +1,54 @@
 -- What an answer says by the case that it is, and answers one after another.
 --     passed, stopped       a Fixed that is past its word; one that is stuck
---     is_number, no_number  a number that is read; one that is stuck
---     past_axis, no_axis, past_test, no_test     and so for axes and tests
+--     is_value, no_value    a value that is read; one that is stuck
 --     on, off               a reader behind one that is past what it reads; behind one that is stuck
+--     handed_up, fixed_up, value_up     what the exit of a `?` hands up
 --     by_left               a reader by what is left
 --     word_reads, number_reads, name_reads     what is ensured of words and numbers, by the reader's definition
 --     entry_then            past the spaces, then a reader
 --     entry_symbol          behind a symbol no word joins
 --     enter_space, enter_joins, enter_free     past the spaces, by the byte that comes
-use Prim.Native.Nat.{ℕ, ◌+◌, ◌≤◌, ◌<◌}
+use Prim.Native.Nat.{ℕ, ◌<◌}
 use mathlib.Core.Path.{◌≡◌, refl, sym, ◌∙◌, ap}
 use mathlib.Core.List.{List, [], ◌∷◌}
 use mathlib.Core.Bool.{Bool, true, false}
-use native.Mathlib.Omega.{arith}
-use lib.ListN.{length, drop, get_or}
+use lib.ListN.{drop, get_or}
+use Rattle.std.specs.Prelude.{Result, Ok, Err}
+use Rattle.std.specs.Result.{IsErrAnd}
+use Rattle.std.proofs.lemmas.Result.{err_from_is_err_and}
 use Rattle.laws.proofs.Booleans.{by_cases}
-use Rattle.codes.specs.declared.Axis.{Axis}
-use Rattle.codes.specs.declared.Test.{Test}
 use Rattle.numerals.specs.Numerals as numerals
 use Rattle.numerals.specs.Texts as texts
 use Rattle.numerals.specs.Answers as answers
-use Rattle.numerals.specs.declared.Fixed.{Fixed}
-use Rattle.numerals.specs.declared.Fixed.TheVariants.{Past, Stuck}
-use Rattle.numerals.specs.declared.Numeral.{Numeral}
-use Rattle.numerals.specs.declared.Numeral.TheVariants as numeral
+use Rattle.numerals.specs.declared.Read.{Read}
+use Rattle.numerals.specs.declared.Stuck.{Stuck}
+use Rattle.numerals.specs.Answers.{fixed_place, read_place}
 use Rattle.grammar.specs.Words.{Kind, symbol, word, open_sign, close_sign}
-use Rattle.laws.specs.Characters.{is_space, is_digit, first}
+use Rattle.laws.specs.Characters.{is_space, first}
 use Rattle.grammar.specs.Spelled.{joins}
 use Rattle.parsing.specs.Reader.{Res, ok, stuck, Reader, then, give, entry, skip, letters, number, read_name}
 use Rattle.parsing.specs.Reader.{brackets, read_word}
-use Rattle.spelling.specs.declared.AxisRead.{AxisRead}
-use Rattle.spelling.specs.declared.AxisRead.TheVariants as axis
-use Rattle.spelling.specs.declared.TestRead.{TestRead}
-use Rattle.spelling.specs.declared.TestRead.TheVariants as test
-use Rattle.spelling.specs.Answers.{Reads, ReadsFixed, fixed_told, fixed_place, ReadsNumber, number_told, number_place}
-use Rattle.spelling.specs.Answers.{ReadsAxis, axis_told, axis_place, ReadsTest, test_told, test_place, entered}
-use Rattle.spelling.specs.Answers.{called_word}
+use Rattle.spelling.specs.Answers.{Reads, ReadsFixed, fixed_told, ReadsValue, value_told, entered, called_word}
 use Rattle.spelling.proofs.Bridging.{looks_first, answered, skip_cons, skip_same, letters_same}
 use Rattle.spelling.proofs.Bridging.{number_same, name_same}
 
-module _ {text : List ℕ} {r : Fixed} {def : Res (Unit {0})} (reads : ReadsFixed text r def) {p : ℕ} where
-  pub passed : r ≡ Past p → Reads text def (ok tt (drop p text)) p
+module _ {text : List ℕ} {r : Result ℕ Stuck} {def : Res (Unit {0})} (reads : ReadsFixed text r def) where
+  pub passed : {p : ℕ} → r ≡ Ok p → Reads text def (ok tt (drop p text)) p
   unfolding fixed_told fixed_place
   passed e = rw e at reads
 
-  pub stopped : r ≡ Stuck p → Reads text def (stuck (drop p text)) p
+  pub stopped : {k : Stuck} → r ≡ Err k → Reads text def (stuck (drop k.0 text)) k.0
   unfolding fixed_told fixed_place
   stopped e = rw e at reads
 
-module _ {text : List ℕ} {r : Numeral} {def : Res ℕ} (reads : ReadsNumber text r def) {p : ℕ} where
-  pub is_number : {n : ℕ} → r ≡ numeral.Is n p → Reads text def (ok n (drop p text)) p
-  unfolding number_told number_place
-  is_number e = rw e at reads
+module _ {A : Type 0} {text : List ℕ} {r : Result (Read A) Stuck} {def : Res A} (reads : ReadsValue text r def) where
+  pub is_value : {v : Read A} → r ≡ Ok v → Reads text def (ok v.what (drop v.next text)) v.next
+  unfolding value_told read_place
+  is_value e = rw e at reads
 
-  pub no_number : r ≡ numeral.Stuck p → Reads text def (stuck (drop p text)) p
-  unfolding number_told number_place
-  no_number e = rw e at reads
-
-module _ {text : List ℕ} {r : AxisRead} {def : Res Axis} (reads : ReadsAxis text r def) {p : ℕ} where
-  pub past_axis : {x : Axis} → r ≡ axis.Past x p → Reads text def (ok x (drop p text)) p
-  unfolding axis_told axis_place
-  past_axis e = rw e at reads
-
-  pub no_axis : r ≡ axis.Stuck p → Reads text def (stuck (drop p text)) p
-  unfolding axis_told axis_place
-  no_axis e = rw e at reads
-
-module _ {text : List ℕ} {r : TestRead} {def : Res Test} (reads : ReadsTest text r def) {p : ℕ} where
-  pub past_test : {t : Test} → r ≡ test.Past t p → Reads text def (ok t (drop p text)) p
-  unfolding test_told test_place
-  past_test e = rw e at reads
-
-  pub no_test : r ≡ test.Stuck p → Reads text def (stuck (drop p text)) p
-  unfolding test_told test_place
-  no_test e = rw e at reads
+  pub no_value : {k : Stuck} → r ≡ Err k → Reads text def (stuck (drop k.0 text)) k.0
+  unfolding value_told read_place
+  no_value e = rw e at reads
 
 module _ {A B : Type 0} {text : List ℕ} {m : Res A} (f : A → Reader B) {p : ℕ} where
   pub on : {a : A} {told : Res B} {q : ℕ} → Reads text m (ok a (drop p text)) p
@@ -83,6 +58,24 @@ module _ {A B : Type 0} {text : List ℕ} {m : Res A} (f : A → Reader B) {p : 
 
   pub off : Reads text m (stuck (drop p text)) p → Reads text (then m f) (stuck (drop p text)) p
   off h = record { means = rw h.means; inside = h.inside }
+
+-- what the exit of a `?` hands up
+module _ {T E : Type 0} where
+  pub handed_up : (r : Result T E) {e : E} → IsErrAnd r (λ (y : E). y ≡ e) → r ≡ Err e
+  handed_up r h = let p = err_from_is_err_and r h in p.1 ∙ ap Err p.2
+
+module _ {text : List ℕ} {k : Stuck} where
+  pub fixed_up : (r : Result ℕ Stuck) {def : Res (Unit {0})} → IsErrAnd r (λ (y : Stuck). y ≡ k)
+      → Reads text def (stuck (drop k.0 text)) k.0
+      → ReadsFixed text r def
+  unfolding fixed_told fixed_place
+  fixed_up r h reads = rw (handed_up r h) reads
+
+  pub value_up : {A : Type 0} (r : Result (Read A) Stuck) {def : Res A} → IsErrAnd r (λ (y : Stuck). y ≡ k)
+      → Reads text def (stuck (drop k.0 text)) k.0
+      → ReadsValue text r def
+  unfolding value_told read_place
+  value_up r h reads = rw (handed_up r h) reads
 
 pub by_left : {A : Type 0} {text : List ℕ} (f : Reader A) {t u : List ℕ} {def told : Res A} {q : ℕ} → t ≡ u
     → f u ≡ def
@@ -98,34 +91,34 @@ pub chosen : {A : Type 0} {text : List ℕ} (f g : Reader A) {t u : List ℕ} {t
     → Reads text (f t) told q
 chosen f g e d k = record { means = rw e (d ∙ ap g (sym e) ∙ k.means); inside = k.inside }
 
-pub word_reads : (text cs : List ℕ) (at : ℕ) (r : Fixed) → ((i : ℕ) → get_or cs i 0 < 256)
-    → (answers.told_fixed text r ≡ texts.after cs (drop at text)) × answers.From text at (answers.fixed_place r)
+pub word_reads : (text cs : List ℕ) (at : ℕ) (r : Result ℕ Stuck) → ((i : ℕ) → get_or cs i 0 < 256)
+    → (answers.told_fixed text r ≡ texts.after cs (drop at text)) × answers.From text at (fixed_place r)
     → ReadsFixed text r (letters cs (drop at text))
-unfolding answers.told_fixed answers.fixed_place fixed_told fixed_place answered
-word_reads text cs at (Past p) small h =
+unfolding answers.told_fixed fixed_place fixed_told answered
+word_reads text cs at (Ok p) small h =
     record { means = letters_same cs (drop at text) small ∙ ap answered (sym h.0); inside = h.1.inside }
-word_reads text cs at (Stuck p) small h =
+word_reads text cs at (Err k) small h =
     record { means = letters_same cs (drop at text) small ∙ ap answered (sym h.0); inside = h.1.inside }
 
-number_told_lem : (text : List ℕ) (at : ℕ) (r : Numeral) (def : Res ℕ) (m : numerals.Res ℕ) → def ≡ answered m
-    → (answers.told_numeral text r ≡ m) × answers.From text at (answers.numeral_place r)
-    → ReadsNumber text r def
-unfolding answers.told_numeral answers.numeral_place number_told number_place answered
-number_told_lem text at (numeral.Is n p) def m e h = record { means = e ∙ ap answered (sym h.0); inside = h.1.inside }
-number_told_lem text at (numeral.Stuck p) def m e h =
-    record { means = e ∙ ap answered (sym h.0); inside = h.1.inside }
+number_told : (text : List ℕ) (at : ℕ) (r : Result (Read ℕ) Stuck) (def : Res ℕ) (m : numerals.Res ℕ)
+    → def ≡ answered m
+    → (answers.told_numeral text r ≡ m) × answers.From text at (read_place r)
+    → ReadsValue text r def
+unfolding answers.told_numeral read_place value_told answered
+number_told text at (Ok v) def m e h = record { means = e ∙ ap answered (sym h.0); inside = h.1.inside }
+number_told text at (Err k) def m e h = record { means = e ∙ ap answered (sym h.0); inside = h.1.inside }
 
-pub number_reads : (text : List ℕ) (at most : ℕ) (r : Numeral)
+pub number_reads : (text : List ℕ) (at most : ℕ) (r : Result (Read ℕ) Stuck)
     → (answers.told_numeral text r ≡ numerals.numeral most (drop at text))
-    × answers.From text at (answers.numeral_place r)
-    → ReadsNumber text r (number most (drop at text))
-number_reads text at most r h = number_told_lem text at r _ _ (number_same most (drop at text)) h
+    × answers.From text at (read_place r)
+    → ReadsValue text r (number most (drop at text))
+number_reads text at most r h = number_told text at r _ _ (number_same most (drop at text)) h
 
-pub name_reads : (text : List ℕ) (at : ℕ) (r : Numeral)
+pub name_reads : (text : List ℕ) (at : ℕ) (r : Result (Read ℕ) Stuck)
     → (answers.told_numeral text r ≡ numerals.name_number (drop at text))
-    × answers.From text at (answers.numeral_place r)
-    → ReadsNumber text r (read_name (drop at text))
-name_reads text at r h = number_told_lem text at r _ _ (name_same (drop at text)) h
+    × answers.From text at (read_place r)
+    → ReadsValue text r (read_name (drop at text))
+name_reads text at r h = number_told text at r _ _ (name_same (drop at text)) h
 
 skip_none : (t : List ℕ) → is_space (first t) ≡ false → skip t ≡ t
 unfolding first skip

@@ -1,15 +1,15 @@
 -- Each reader that looks at a byte, by the byte that it sees.
-use Prim.Native.Nat.{ℕ, ◌+◌, ◌-◌, ◌≤◌, ◌<◌}
-use mathlib.Core.Path.{◌≡◌, refl, sym, ◌∙◌, ap}
+use Prim.Native.Nat.{ℕ, ◌-◌, ◌≤◌}
+use mathlib.Core.Path.{◌≡◌, refl}
 use mathlib.Core.List.{List, [], ◌∷◌}
 use mathlib.Core.Bool.{Bool, true, false, not, ◌&&◌, ◌||◌}
-use native.Mathlib.Omega.{arith}
 use lib.Dec.{leb, eqb}
-use borrow.Author.Tests.{ne_eqb, le-leb, lt-leb}
+use borrow.Author.Tests.{ne_eqb, leb-true}
+use Rattle.laws.proofs.Booleans.{both_true}
 use Rattle.codes.specs.declared.Axis.TheVariants.{Descendant}
 use Rattle.parsing.specs.declared.Ends.{Ends}
 use Rattle.parsing.specs.declared.Ends.TheVariants.{WithText, WithList, WithCall, WithReturn, WithElse}
-use Rattle.parsing.specs.declared.Next.TheVariants.{Eq, Lt, Comma, Close, Return, Else, End}
+use Rattle.parsing.specs.declared.Next.TheVariants.{Lt, Comma, Close, Return}
 use Rattle.laws.specs.Characters.{first}
 use Rattle.parsing.specs.Reader.{ok, stuck, Reader, rest, ended, look, halt, is_variable, read_axis, read_test}
 use Rattle.parsing.specs.Reader.{by_text, by_comma, by_close, by_return, by_else}
@@ -21,23 +21,21 @@ and_false : (a : Bool) → (a && false) ≡ false
 and_false true = refl
 and_false false = refl
 
+pub variable_few : (b : ℕ) → is_variable b ≡ true → (97 ≤ b) × (b ≤ 104)
+unfolding is_variable
+variable_few b e =
+    let h = both_true (leb 97 b) (leb b 104) e in
+    (leb-true 97 b h.0, leb-true b 104 h.1)
+
 abbrev pub a_variable : Reader ℕ
 a_variable = look is_variable (λ t. ok (first t - 97) (rest t)) halt
 
 module _ (t : List ℕ) (b : ℕ) (seen : first t ≡ b) where
-  pub variable_low : b < 97 → a_variable t ≡ stuck t
-  unfolding is_variable
-  variable_low h = rw (seen, lt-leb 97 b h)
+  pub variable_off : is_variable b ≡ false → a_variable t ≡ stuck t
+  variable_off e = rw (seen, e)
 
-  pub variable_high : 104 < b → a_variable t ≡ stuck t
-  unfolding is_variable
-  variable_high h =
-      let k : 97 ≤ b = omega arith in
-      rw (seen, le-leb 97 b k, lt-leb b 104 h)
-
-  pub variable_is : 97 ≤ b → b ≤ 104 → a_variable t ≡ ok (b - 97) (rest t)
-  unfolding is_variable
-  variable_is h k = rw (seen, le-leb 97 b h, le-leb b 104 k, seen)
+  pub variable_is : is_variable b ≡ true → a_variable t ≡ ok (b - 97) (rest t)
+  variable_is e = rw (seen, e, seen)
 
   unseen : (k : ℕ) → (b ≡ k → ⊥) → eqb (first t) k ≡ false
   unseen k h = rw seen (ne_eqb b k h)

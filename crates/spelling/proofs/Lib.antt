@@ -1,4 +1,3 @@
 pub mod Bridging
-pub mod Joining
 pub mod Answering
 pub mod Choosing

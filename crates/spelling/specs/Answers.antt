@@ -6,36 +6,30 @@
 --     more_word, equal_word, last_word, close_word, end_word, next_word
 --                                parts of the reader, each as its function of the code has it
 --     Reads text def told p  the answer that was told is the definition's, and its place p is in the text
---     fixed_told text r, fixed_place r     what a Fixed says, and its place; and so for the other answers
---     ReadsFixed text r def  a Fixed is what the definition answers; and so for the other answers
-use Rattle.std.specs.Prelude.{ℕ, ◌≤◌, ◌≡◌, List, [], ◌∷◌, Bool, true, false, not, ◌||◌, length, drop}
+--     fixed_told text r      what a Fixed says
+--     ReadsFixed text r def  a Fixed is what the definition answers
+--     value_told text r      what the answer of a reader of values says
+--     ReadsValue text r def  .. and so for them
+use Rattle.std.specs.Prelude.{ℕ, ◌≤◌, ◌≡◌, List, [], ◌∷◌, Bool, not, ◌||◌, length, drop, Result, Ok, Err}
 use Rattle.codes.specs.declared.Axis.{Axis}
 use Rattle.codes.specs.declared.Axis.TheVariants.{Descendant, DescendantOrSelf, Parent, Preceding}
 use Rattle.codes.specs.declared.Test.{Test}
 use Rattle.codes.specs.declared.Test.TheVariants.{AnyNode, Named}
-use Rattle.numerals.specs.declared.Fixed as fixed
-use Rattle.numerals.specs.declared.Fixed.TheVariants as fixed-is
-use Rattle.numerals.specs.declared.Numeral as numeral
-use Rattle.numerals.specs.declared.Numeral.TheVariants as numeral_is
+use Rattle.numerals.specs.declared.Read.{Read}
+use Rattle.numerals.specs.declared.Stuck.{Stuck}
+use Rattle.numerals.specs.Answers.{fixed_place, read_place}
 use Rattle.parsing.specs.declared.Ends.{Ends}
 use Rattle.parsing.specs.declared.Next.{Next}
 use Rattle.parsing.specs.declared.Next.TheVariants.{Slash, Star, Idiv, Plus, Minus, Eq, Lt, Comma, Close}
 use Rattle.parsing.specs.declared.Next.TheVariants.{Return, Else, End}
 use Rattle.grammar.specs.Words.{Kind, symbol, word, name, axis_sign}
-use Rattle.parsing.specs.Reader.{Res, ok, stuck, Reader, Step, then, give, halt, either, past, at_end, byte, allowed}
+use Rattle.parsing.specs.declared.Step.{Step}
+use Rattle.parsing.specs.Reader.{Res, ok, stuck, Reader, then, give, halt, either, past, at_end, byte, allowed}
 use Rattle.parsing.specs.Reader.{entry}
 use Rattle.parsing.specs.Reader.{letters, spelled, brackets, read_word, read_name, read_test}
 use Rattle.parsing.specs.Reader.{by_text, by_comma, by_close, by_return, by_else}
 use Rattle.spelling.specs.declared.Before as before
 use Rattle.spelling.specs.declared.Before.TheVariants as before-is
-use Rattle.spelling.specs.declared.NextRead as next
-use Rattle.spelling.specs.declared.NextRead.TheVariants as next-is
-use Rattle.spelling.specs.declared.AxisRead as axis
-use Rattle.spelling.specs.declared.AxisRead.TheVariants as axis_is
-use Rattle.spelling.specs.declared.TestRead as test
-use Rattle.spelling.specs.declared.TestRead.TheVariants as test_is
-use Rattle.spelling.specs.declared.StepRead as step
-use Rattle.spelling.specs.declared.StepRead.TheVariants as step_is
 
 abbrev pub kind_is : before.Before → Kind
 kind_is before-is.Symbol = symbol
@@ -70,7 +64,7 @@ abbrev pub node_rest : Reader Test
 node_rest = byte 111 (called_word (100 ∷ 101 ∷ []) AnyNode) named_rest
 
 abbrev pub step_test : Axis → Reader Step
-step_test x t = then (entry symbol read_test t) (λ p. give (record { along = x; passing = p }))
+step_test x t = then (entry symbol read_test t) (λ p. give (record { axis = x; test = p }))
 
 abbrev pub step_rest : Axis → Reader Step
 step_rest x t = then (read_word word axis_sign t) (λ done. step_test x)
@@ -117,68 +111,17 @@ pub record Reads {A : Type 0} (text : List ℕ) (def told : Res A) (place : ℕ)
   pub means : def ≡ told
   pub inside : place ≤ length text
 
-unfoldable pub fixed_told : List ℕ → fixed.Fixed → Res (Unit {0})
-fixed_told text (fixed-is.Past p) = ok tt (drop p text)
-fixed_told text (fixed-is.Stuck p) = stuck (drop p text)
+unfoldable pub fixed_told : List ℕ → Result ℕ Stuck → Res (Unit {0})
+fixed_told text (Ok p) = ok tt (drop p text)
+fixed_told text (Err s) = stuck (drop s.0 text)
 
-unfoldable pub fixed_place : fixed.Fixed → ℕ
-fixed_place (fixed-is.Past p) = p
-fixed_place (fixed-is.Stuck p) = p
-
-abbrev pub ReadsFixed : List ℕ → fixed.Fixed → Res (Unit {0}) → Type 0
+abbrev pub ReadsFixed : List ℕ → Result ℕ Stuck → Res (Unit {0}) → Type 0
 ReadsFixed text r def = Reads text def (fixed_told text r) (fixed_place r)
 
-unfoldable pub number_told : List ℕ → numeral.Numeral → Res ℕ
-number_told text (numeral_is.Is v p) = ok v (drop p text)
-number_told text (numeral_is.Stuck p) = stuck (drop p text)
+module _ {A : Type 0} where
+  unfoldable pub value_told : List ℕ → Result (Read A) Stuck → Res A
+  value_told text (Ok r) = ok r.what (drop r.next text)
+  value_told text (Err s) = stuck (drop s.0 text)
 
-unfoldable pub number_place : numeral.Numeral → ℕ
-number_place (numeral_is.Is v p) = p
-number_place (numeral_is.Stuck p) = p
-
-abbrev pub ReadsNumber : List ℕ → numeral.Numeral → Res ℕ → Type 0
-ReadsNumber text r def = Reads text def (number_told text r) (number_place r)
-
-unfoldable pub next_told : List ℕ → next.NextRead → Res Next
-next_told text (next-is.Past n p) = ok n (drop p text)
-next_told text (next-is.Stuck p) = stuck (drop p text)
-
-unfoldable pub next_place : next.NextRead → ℕ
-next_place (next-is.Past n p) = p
-next_place (next-is.Stuck p) = p
-
-abbrev pub ReadsNext : List ℕ → next.NextRead → Res Next → Type 0
-ReadsNext text r def = Reads text def (next_told text r) (next_place r)
-
-unfoldable pub axis_told : List ℕ → axis.AxisRead → Res Axis
-axis_told text (axis_is.Past x p) = ok x (drop p text)
-axis_told text (axis_is.Stuck p) = stuck (drop p text)
-
-unfoldable pub axis_place : axis.AxisRead → ℕ
-axis_place (axis_is.Past x p) = p
-axis_place (axis_is.Stuck p) = p
-
-abbrev pub ReadsAxis : List ℕ → axis.AxisRead → Res Axis → Type 0
-ReadsAxis text r def = Reads text def (axis_told text r) (axis_place r)
-
-unfoldable pub test_told : List ℕ → test.TestRead → Res Test
-test_told text (test_is.Past t p) = ok t (drop p text)
-test_told text (test_is.Stuck p) = stuck (drop p text)
-
-unfoldable pub test_place : test.TestRead → ℕ
-test_place (test_is.Past t p) = p
-test_place (test_is.Stuck p) = p
-
-abbrev pub ReadsTest : List ℕ → test.TestRead → Res Test → Type 0
-ReadsTest text r def = Reads text def (test_told text r) (test_place r)
-
-unfoldable pub step_told : List ℕ → step.StepRead → Res Step
-step_told text (step_is.Past x t p) = ok (record { along = x; passing = t }) (drop p text)
-step_told text (step_is.Stuck p) = stuck (drop p text)
-
-unfoldable pub step_place : step.StepRead → ℕ
-step_place (step_is.Past x t p) = p
-step_place (step_is.Stuck p) = p
-
-abbrev pub ReadsStep : List ℕ → step.StepRead → Res Step → Type 0
-ReadsStep text r def = Reads text def (step_told text r) (step_place r)
+  abbrev pub ReadsValue : List ℕ → Result (Read A) Stuck → Res A → Type 0
+  ReadsValue text r def = Reads text def (value_told text r) (read_place r)

@@ -11,8 +11,8 @@ ghost use Rattle.parsing.specs.Reader;
 ghost use Rattle.spelling.specs.Answers;
 
 use codes::{Axis, Test};
-use numerals::{Fixed, Numeral, byte, is_digit, is_space, spaces, word};
-use parsing::Next;
+use numerals::{Fixed, Numeral, Read, Stuck, byte, is_digit, is_space, spaces, word};
+use parsing::{Next, Step};
 
 // What stands directly before: a symbol; a word of letters or digits; a name.
 #[derive(Clone, Copy)]
@@ -23,68 +23,42 @@ pub enum Before {
 }
 
 // The word after an operand and where it ends; or the place where no text of the grammar goes on.
-#[derive(Clone, Copy)]
-pub enum NextRead {
-    Past(Next, usize),
-    Stuck(usize),
-}
+pub type NextRead = Result<Read<Next>, Stuck>;
 
 // An axis and where it ends.
-#[derive(Clone, Copy)]
-pub enum AxisRead {
-    Past(Axis, usize),
-    Stuck(usize),
-}
+pub type AxisRead = Result<Read<Axis>, Stuck>;
 
 // A test and where it ends.
-#[derive(Clone, Copy)]
-pub enum TestRead {
-    Past(Test, usize),
-    Stuck(usize),
-}
+pub type TestRead = Result<Read<Test>, Stuck>;
 
 // A step and where it ends.
-#[derive(Clone, Copy)]
-pub enum StepRead {
-    Past(Axis, Test, usize),
-    Stuck(usize),
-}
+pub type StepRead = Result<Read<Step>, Stuck>;
 
 // Whether a byte is a letter.
+#[tactic(auto, unfolding(laws::specs::Characters::is_letter))]
 fn is_letter(b: usize) -> bool
     ensures { result ≡ Characters.is_letter b }
 {
-    if b < 65 {
-        return false;
-    }
-    if b <= 90 {
-        return true;
-    }
-    if b < 97 {
-        return false;
-    }
-    b <= 122
+    matches!(b, 65..=90 | 97..=122)
 }
 
 // Whether a byte is a letter or a digit.
+#[tactic(auto, unfolding(grammar::specs::Spelled::joins))]
 fn is_plain(b: usize) -> bool
     ensures { result ≡ Spelled.joins Words.word b }
 {
-    if is_letter(b) { true } else { is_digit(b) }
+    is_letter(b) || is_digit(b)
 }
 
 // Whether a word that begins with a byte would join what stands directly before.
+#[tactic(auto, unfolding(grammar::specs::Spelled::joins))]
 fn joins(before: Before, b: usize) -> bool
     ensures { result ≡ Spelled.joins (Answers.kind_is before) b }
 {
     match before {
         Before::Symbol => false,
         Before::Word => is_plain(b),
-        Before::Name => if is_plain(b) {
-            true
-        } else {
-            b == b'-' as usize
-        },
+        Before::Name => is_plain(b) || b == usize::from(b'-'),
     }
 }
 
@@ -96,12 +70,12 @@ pub fn enter(text: &[u8], at: usize, before: Before) -> Fixed
 {
     let b = byte(text, at);
     if is_space(b) {
-        return Fixed::Past(spaces(text, at));
+        return Ok(spaces(text, at));
     }
     if joins(before, b) {
-        return Fixed::Stuck(at);
+        return Err(Stuck(at));
     }
-    Fixed::Past(at)
+    Ok(at)
 }
 
 // A word of one spelling.
@@ -110,10 +84,17 @@ pub fn fixed(text: &[u8], at: usize, before: Before, rest: &[u8]) -> Fixed
     ensures { Answers.ReadsFixed text.now result
         (Reader.entry (Answers.kind_is before) (Reader.letters rest.now) (drop at text.now)) }
 {
-    match enter(text, at, before) {
-        Fixed::Past(next) => word(text, next, rest),
-        Fixed::Stuck(place) => Fixed::Stuck(place),
-    }
+    let next = enter(text, at, before)?;
+    word(text, next, rest)
+}
+
+// The rest of a word that stands for a value.
+pub fn spelled<T: Copy>(text: &[u8], at: usize, rest: &[u8], what: T) -> Result<Read<T>, Stuck>
+    requires { at ≤ length text.now }
+    ensures { Answers.ReadsValue text.now result (Reader.spelled rest.now what (drop at text.now)) }
+{
+    let next = word(text, at, rest)?;
+    Ok(Read { what, next })
 }
 
 // The empty parentheses behind a word of letters.
@@ -121,10 +102,8 @@ pub fn brackets(text: &[u8], at: usize) -> Fixed
     requires { at ≤ length text.now }
     ensures { Answers.ReadsFixed text.now result (Reader.brackets tt (drop at text.now)) }
 {
-    match fixed(text, at, Before::Word, b"(") {
-        Fixed::Past(next) => fixed(text, next, Before::Symbol, b")"),
-        Fixed::Stuck(place) => Fixed::Stuck(place),
-    }
+    let next = fixed(text, at, Before::Word, b"(")?;
+    fixed(text, next, Before::Symbol, b")")
 }
 
 // The rest of a word of letters, and the empty parentheses behind it.
@@ -133,24 +112,30 @@ pub fn called(text: &[u8], at: usize, rest: &[u8]) -> Fixed
     ensures { Answers.ReadsFixed text.now result
         (Answers.called_word rest.now tt (drop at text.now)) }
 {
-    match word(text, at, rest) {
-        Fixed::Past(next) => brackets(text, next),
-        Fixed::Stuck(place) => Fixed::Stuck(place),
-    }
+    let next = word(text, at, rest)?;
+    brackets(text, next)
+}
+
+// Whether a byte is one of `a` to `h`.
+#[tactic(auto, unfolding(parsing::specs::Reader::is_variable))]
+fn is_variable(b: usize) -> bool
+    ensures { result ≡ Reader.is_variable b }
+{
+    matches!(b, 97..=104)
 }
 
 // A variable, a to h, behind its `$`.
 pub fn variable(text: &[u8], at: usize) -> Numeral
     requires { at ≤ length text.now }
-    ensures { Answers.ReadsNumber text.now result (Reader.read_variable (drop at text.now)) }
+    ensures { Answers.ReadsValue text.now result (Reader.read_variable (drop at text.now)) }
 {
     let from = spaces(text, at);
     let b = byte(text, from);
-    if b < 97 {
-        return Numeral::Stuck(from);
+    if !is_variable(b) {
+        return Err(Stuck(from));
     }
-    if 104 < b {
-        return Numeral::Stuck(from);
-    }
-    Numeral::Is(b - 97, from + 1)
+    Ok(Read {
+        what: b - 97,
+        next: from + 1,
+    })
 }

@@ -1,61 +1,55 @@
 // Items on one stack of lent cells: what stands there, and the moves that ask nothing of what the items are.
 #![tactic(auto)]
 
-ghost use Rattle.std.specs.Prelude.{◌≡◌, [], ◌∷◌, ℕ, ◌+◌, ◌-◌, ◌≤◌, max, length};
+ghost use Rattle.std.specs.Prelude.{◌≡◌, [], ◌∷◌, ℕ, ◌+◌, ◌-◌, ◌≤◌, length, Ok};
 ghost use Rattle.laws.specs.Rows.{row};
 ghost use Rattle.meaning.specs.Counted.{adding};
 ghost use Rattle.stack.specs.Stack.{stood, paired, Fit, FitPair, Sums, EndsPair, Ends, At, Leaves, Lent};
 ghost use Rattle.stack.specs.Stack.{raising, joining, besiding, Adds};
 ghost use Rattle.stack.specs.Moves.{kept, counted};
 
+use codes::refusals::Stop;
+
 // What an operand leaves on the stack: how many items stand there, the count of what stood while they were worked out,
-// and the offset after the operand; or refusal 6 or 7 and its place.
+// and the offset after the operand.
 #[derive(Clone, Copy)]
-pub enum Stood {
-    Items {
-        length: usize,
-        count: usize,
-        next: usize,
-    },
-    Full(usize),
-    Failed(usize),
+pub struct Stood {
+    pub length: usize,
+    pub count: usize,
+    pub next: usize,
 }
 
 // What two operands leave there, one behind the other.
 #[derive(Clone, Copy)]
-pub enum Pair {
-    Items {
-        first: usize,
-        second: usize,
-        count: usize,
-        next: usize,
-    },
-    Full(usize),
-    Failed(usize),
-}
-
-// The larger of two numbers.
-pub fn larger(a: usize, b: usize) -> usize
-    ensures { result ≡ max a b }
-{
-    if a < b { b } else { a }
+pub struct Pair {
+    pub first: usize,
+    pub second: usize,
+    pub count: usize,
+    pub next: usize,
 }
 
 // Adds an item, where the room suffices; else refusal 6 at `at`.
-pub fn put(cell: i64, at: usize, next: usize, work: &mut [i64], top: usize, room: usize) -> Stood
+pub fn put(
+    cell: i64,
+    at: usize,
+    next: usize,
+    work: &mut [i64],
+    top: usize,
+    room: usize,
+) -> Result<Stood, Stop>
     requires { Lent top room work.old }
     ensures { Leaves top room (adding (room - top) at 0 (cell ∷ [])) (At next) work.old
         work.new result }
 {
     if top == room {
-        return Stood::Full(at);
+        return Err(Stop::Full(at));
     }
     work[top] = cell;
-    Stood::Items {
+    Ok(Stood {
         length: 1,
         count: 1,
         next,
-    }
+    })
 }
 
 // Adds the items that stand in n cells from `start` on once more, where the room suffices.
@@ -67,56 +61,46 @@ pub fn again(
     work: &mut [i64],
     top: usize,
     room: usize,
-) -> Stood
+) -> Result<Stood, Stop>
     requires { Lent top room work.old × (start + n ≤ top) }
     ensures { Leaves top room (adding (room - top) at 0 (row work.old start n)) (At next)
         work.old work.new result }
 {
     if room - top < n {
-        return Stood::Full(at);
+        return Err(Stop::Full(at));
     }
     lent::copy(work, start, n, top);
-    Stood::Items {
+    Ok(Stood {
         length: n,
         count: n,
         next,
-    }
+    })
 }
 
 // The same items, where at least `count` stood.
 pub fn raise(count: usize, added: Stood) -> Stood
     ensures { result ≡ raising count added }
 {
-    match added {
-        Stood::Items {
-            length,
-            count: own,
-            next,
-        } => Stood::Items {
-            length,
-            count: larger(count, own),
-            next,
-        },
-        Stood::Full(place) => Stood::Full(place),
-        Stood::Failed(place) => Stood::Failed(place),
+    Stood {
+        count: count.max(added.count),
+        ..added
     }
 }
 
 // QC: the number of items in their place.
-pub fn number(operand: Stood, at: usize, work: &mut [i64], top: usize, room: usize) -> Stood
-    requires { Lent top room work.old × Fit top room operand }
-    ensures { Leaves top room (counted (room - top) at (stood work.old top operand)) (Ends operand)
-        work.old work.new result }
+pub fn number(
+    operand: Stood,
+    at: usize,
+    work: &mut [i64],
+    top: usize,
+    room: usize,
+) -> Result<Stood, Stop>
+    requires { Lent top room work.old × Fit top room (Ok operand) }
+    ensures { Leaves top room (counted (room - top) at (stood work.old top (Ok operand)))
+        (Ends (Ok operand)) work.old work.new result }
 {
-    let Stood::Items {
-        length,
-        count,
-        next,
-    } = operand
-    else {
-        return operand;
-    };
-    raise(count, put(length as i64, at, next, work, top, room))
+    let added = put(operand.length as i64, at, operand.next, work, top, room)?;
+    Ok(raise(operand.count, added))
 }
 
 // QS: both operands' items, as they stand.
@@ -124,63 +108,37 @@ pub fn join(pair: Pair) -> Stood
     requires { Sums pair }
     ensures { result ≡ joining pair }
 {
-    match pair {
-        Pair::Items {
-            first,
-            second,
-            count,
-            next,
-        } => Stood::Items {
-            length: first + second,
-            count,
-            next,
-        },
-        Pair::Full(place) => Stood::Full(place),
-        Pair::Failed(place) => Stood::Failed(place),
+    Stood {
+        length: pair.first + pair.second,
+        count: pair.count,
+        next: pair.next,
     }
 }
 
-// The second of two operands, behind `length` items of the first that are counted `count`.
-pub fn beside(length: usize, count: usize, second: Stood) -> Pair
-    requires { Adds length second }
-    ensures { result ≡ besiding length count second }
+// The second of two operands, behind the items of the first.
+pub fn beside(first: Stood, second: Stood) -> Pair
+    requires { Adds first.length second }
+    ensures { result ≡ besiding first second }
 {
-    match second {
-        Stood::Items {
-            length: own,
-            count: behind,
-            next,
-        } => Pair::Items {
-            first: length,
-            second: own,
-            count: larger(count, length + behind),
-            next,
-        },
-        Stood::Full(place) => Pair::Full(place),
-        Stood::Failed(place) => Pair::Failed(place),
+    Pair {
+        first: first.length,
+        second: second.length,
+        count: first.count.max(first.length + second.count),
+        next: second.next,
     }
 }
 
 // QT: b's items, moved down over a's.
 pub fn drop_first(pair: Pair, work: &mut [i64], top: usize) -> Stood
-    requires { FitPair top (length work.old) pair }
-    ensures { (room : ℕ) → FitPair top room pair
-        → Leaves top room (kept (paired work.old top pair)) (EndsPair pair) work.old
-        work.new result }
+    requires { FitPair top (length work.old) (Ok pair) }
+    ensures { (room : ℕ) → FitPair top room (Ok pair)
+        → Leaves top room (kept (paired work.old top (Ok pair))) (EndsPair (Ok pair)) work.old
+        work.new (Ok result) }
 {
-    let Pair::Items {
-        first,
-        second,
-        count,
-        next,
-    } = pair
-    else {
-        return join(pair);
-    };
-    lent::copy(work, top + first, second, top);
-    Stood::Items {
-        length: second,
-        count,
-        next,
+    lent::copy(work, top + pair.first, pair.second, top);
+    Stood {
+        length: pair.second,
+        count: pair.count,
+        next: pair.next,
     }
 }

@@ -1,7 +1,9 @@
 -- A function of two sides (document 01, 'Query records', QO), by how many items each side has.
 --     apply-..      what `apply` gives
 --     sides-..      what the record leaves on the stack
-use Prim.Native.Nat.{ℕ, ◌+◌, ◌-◌, ◌≤◌, ◌<◌}
+use Rattle.std.specs.Prelude.{Result, Ok, Err}
+use mathlib.Core.Logic.{◌⊎◌, inl, inr}
+use Prim.Native.Nat.{ℕ, ◌+◌, ◌≤◌, ◌<◌}
 use mathlib.Core.Path.{◌≡◌, refl, sym, ap, ap₂, ◌∙◌}
 use mathlib.Core.List.{List, [], ◌∷◌}
 use native.Mathlib.Omega.{arith}
@@ -11,16 +13,16 @@ use lib.ListN.{length, get_or}
 use Rattle.laws.specs.Rows.{row, laid}
 use Rattle.laws.proofs.Rows.{length_row, get_d_row, laid_nothing}
 use Rattle.codes.specs.declared.Function.{Function}
-use Rattle.laws.specs.Attempt.{Attempt, fails, gives, attempt, work}
+use Rattle.codes.specs.declared.refusals.Stop.{Stop}
+use Rattle.laws.specs.Attempt.{Attempt, fails, gives, attempt}
 use Rattle.meaning.specs.World.{World}
 use Rattle.meaning.specs.Meaning.{apply}
 use Rattle.meaning.specs.Counted.{stand}
 use Rattle.stack.specs.declared.Stood.{Stood}
-use Rattle.stack.specs.declared.Stood.TheVariants as Stood
-use Rattle.stack.specs.declared.Pair.TheVariants as Pair
-use Rattle.stack.specs.Stack.{paired, At, Leaves}
+use Rattle.stack.specs.declared.Pair.{Pair}
+use Rattle.stack.specs.Stack.{paired, FitPair, EndsPair, At, Leaves}
 use Rattle.stack_records.specs.Arms.{applied}
-use Rattle.stack.proofs.Leaving.{leaves_laid, leaves_fails, leaves_gives}
+use Rattle.stack.proofs.Leaving.{leaves_laid, leaves_fails, leaves_gives, leaves_pair}
 
 module _ (w : World) (f : Function) where
   apply_many : (xs ys : List ℤ) → 1 < length xs → apply w f xs ys ≡ fails
@@ -61,72 +63,77 @@ module _ (w : World) (f : Function) where
   apply_both (x ∷ []) (y ∷ z ∷ ys) e d = absurd (omega arith)
   apply_both (x ∷ []) (y ∷ []) e d = refl
 
--- what the record leaves, where its sides are l items and then m, counted k
-abbrev Sides : World → Function → ℕ → ℕ → ℕ → ℕ → ℕ → ℕ → ℕ → List ℤ → List ℤ → Stood → Type 0
-Sides w f at l m k n top room before after r =
-    Leaves top room (applied w at f (paired before top (Pair.Items l m k n))) (At n) before after r
+-- what the record leaves behind a pair of sides
+abbrev Sides : World → Function → ℕ → Pair → ℕ → ℕ → List ℤ → List ℤ → Result Stood Stop → Type 0
+Sides w f at d top room before after r =
+    Leaves top room (applied w at f (paired before top (Ok d))) (EndsPair (Ok d)) before after r
 
 module _
-    (w : World) (f : Function) (at l m k n top : ℕ) (before : List ℤ) (h : l + m ≤ k) (g : top + k ≤ length before)
-    (room : ℕ)
-    (t : top + k ≤ room)
+    (w : World) (f : Function) (at top : ℕ) (before : List ℤ) (d : Pair) (g : FitPair top (length before) (Ok d))
+    (room : ℕ) (t : FitPair top room (Ok d))
   where
-    long : length (row before top l) ≡ l
-    long = length_row before top l (omega arith)
+    long : length (row before top d.first) ≡ d.first
+    long = length_row before top d.first (omega arith)
 
-    wide : length (row before (top + l) m) ≡ m
-    wide = length_row before (top + l) m (omega arith)
+    wide : length (row before (top + d.first) d.second) ≡ d.second
+    wide = length_row before (top + d.first) d.second (omega arith)
 
     -- no item is left
     empty :
-        apply w f (row before top l) (row before (top + l) m) ≡ gives [] →
-        Sides w f at l m k n top room before before (Stood.Items 0 k n)
-    unfolding applied paired work
+        apply w f (row before top d.first) (row before (top + d.first) d.second) ≡ gives [] →
+        Sides w f at d top room before before (Ok (record { length = 0; count = d.count; next = d.next }))
+    unfolding applied
     empty e =
-        leaves_gives top room (At n) before at _ (λ xs. stand xs k) before (Stood.Items 0 k n) [] e
-        (leaves_laid top room (At n) before before 0 k n [] (sym (laid_nothing before top)) (omega arith) refl
-        (omega arith) t (λ e d. d))
+        leaves_pair top room before before _ _ d
+        (leaves_gives top room (At d.next) before at _ (λ xs. stand xs d.count) before _ [] e
+        (leaves_laid top room (At d.next) before before _ [] (sym (laid_nothing before top)) (omega arith) refl
+        (omega arith) t.1 (λ e h. h)))
 
     fail :
-        apply w f (row before top l) (row before (top + l) m) ≡ fails →
-        Sides w f at l m k n top room before before (Stood.Failed at)
-    unfolding applied paired work
-    fail e = leaves_fails top room (At n) before at _ (λ xs. stand xs k) e
+        apply w f (row before top d.first) (row before (top + d.first) d.second) ≡ fails →
+        Sides w f at d top room before before (Err (Stop.Failed at))
+    unfolding applied
+    fail e =
+        leaves_pair top room before before _ _ d
+        (leaves_fails top room (At d.next) before at _ (λ xs. stand xs d.count) e)
 
-    pub sides_many : 1 < l → Sides w f at l m k n top room before before (Stood.Failed at)
-    sides_many d = fail (apply_many w f _ _ (omega (arith, long)))
+    pub sides_many : (1 < d.first) ⊎ (1 < d.second) → Sides w f at d top room before before (Err (Stop.Failed at))
+    sides_many (inl h) = fail (apply_many w f _ _ (omega (arith, long)))
+    sides_many (inr h) = fail (apply_more w f _ _ (omega (arith, wide)))
 
-    pub sides_more : 1 < m → Sides w f at l m k n top room before before (Stood.Failed at)
-    sides_more d = fail (apply_more w f _ _ (omega (arith, wide)))
-
-    pub sides_none : l ≡ 0 → m ≤ 1 → Sides w f at l m k n top room before before (Stood.Items 0 k n)
-    sides_none d e = empty (apply_none w f _ _ (long ∙ d) (omega (arith, wide)))
-
-    pub sides_nothing : l ≤ 1 → m ≡ 0 → Sides w f at l m k n top room before before (Stood.Items 0 k n)
-    sides_nothing d e = empty (apply_nothing w f _ _ (omega (arith, long)) (wide ∙ e))
+    pub sides_none :
+        d.first ≤ 1 → d.second ≤ 1 → (d.first ≡ 0) ⊎ (d.second ≡ 0) →
+        Sides w f at d top room before before (Ok (record { length = 0; count = d.count; next = d.next }))
+    sides_none h k (inl z) = empty (apply_none w f _ _ (long ∙ z) (omega (arith, wide)))
+    sides_none h k (inr z) = empty (apply_nothing w f _ _ (omega (arith, long)) (wide ∙ z))
 
     -- one item on each side
-    module _ (d : l ≡ 1) (e : m ≡ 1) (a : Attempt ℤ)
+    module _ (h : d.first ≡ 1) (k : d.second ≡ 1) (a : Attempt ℤ)
         (s : a ≡ w.arith f (get_or before top (pos 0)) (get_or before (top + 1) (pos 0))) where
-      both : apply w f (row before top l) (row before (top + l) m) ≡ attempt a (λ z. gives (z ∷ []))
+      both :
+          apply w f (row before top d.first) (row before (top + d.first) d.second)
+          ≡ attempt a (λ z. gives (z ∷ []))
       both =
-          apply_both w f _ _ (long ∙ d) (wide ∙ e)
+          apply_both w f _ _ (long ∙ h) (wide ∙ k)
           ∙ ap (λ (x : Attempt ℤ). attempt x (λ z. gives (z ∷ [])))
           (ap₂ (w.arith f)
-          (get_d_row before top l 0 (pos 0) (omega arith) ∙ ap (λ (i : ℕ). get_or before i (pos 0)) (add-zero top))
-          (get_d_row before (top + l) m 0 (pos 0) (omega arith)
-          ∙ ap (λ (i : ℕ). get_or before i (pos 0)) (add-zero (top + l) ∙ ap (λ (i : ℕ). top + i) d))
+          (get_d_row before top d.first 0 (pos 0) (omega arith)
+          ∙ ap (λ (i : ℕ). get_or before i (pos 0)) (add-zero top))
+          (get_d_row before (top + d.first) d.second 0 (pos 0) (omega arith)
+          ∙ ap (λ (i : ℕ). get_or before i (pos 0)) (add-zero (top + d.first) ∙ ap (λ (i : ℕ). top + i) h))
           ∙ sym s)
 
-      pub sides_fail : a ≡ fails → Sides w f at l m k n top room before before (Stood.Failed at)
+      pub sides_fail : a ≡ fails → Sides w f at d top room before before (Err (Stop.Failed at))
       unfolding attempt
       sides_fail z = fail (both ∙ ap (λ (x : Attempt ℤ). attempt x (λ y. gives (y ∷ []))) z)
 
       pub sides_both :
           (after : List ℤ) (z : ℤ) → a ≡ gives z → after ≡ laid before top (z ∷ []) →
-          Sides w f at l m k n top room before after (Stood.Items 1 k n)
-      unfolding applied paired work attempt
+          Sides w f at d top room before after (Ok (record { length = 1; count = d.count; next = d.next }))
+      unfolding applied attempt
       sides_both after z q p =
-          leaves_gives top room (At n) before at _ (λ xs. stand xs k) after (Stood.Items 1 k n) (z ∷ [])
+          leaves_pair top room before after _ _ d
+          (leaves_gives top room (At d.next) before at _ (λ xs. stand xs d.count) after _ (z ∷ [])
           (both ∙ ap (λ (x : Attempt ℤ). attempt x (λ y. gives (y ∷ []))) q)
-          (leaves_laid top room (At n) before after 1 k n (z ∷ []) p (omega arith) refl (omega arith) t (λ e d. d))
+          (leaves_laid top room (At d.next) before after _ (z ∷ []) p (omega arith) refl (omega arith) t.1
+          (λ e h. h)))

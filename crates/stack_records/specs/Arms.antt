@@ -6,10 +6,8 @@
 --     stepped w room at x t o     QX: a step
 --     Reaches doc n x t xs ms m   m says whether every one of xs is a node; ms are the marks of the nodes that the step
 --                                 reaches
---     Valued w top n before after t    t says whether each of the n items from top on has a value; those values in its
---                                      place
-use Rattle.std.specs.Prelude.{ℕ, ◌≡◌, Bool, true, false, List, [], ◌∷◌, map, ℤ, length, take}
-use Rattle.laws.specs.Rows.{row, laid}
+--     Valued w before after t     t says whether each item has a value; those values in its place
+use Rattle.std.specs.Prelude.{ℕ, ◌≡◌, Bool, List, [], ◌∷◌, map, ℤ, length, Option, Some, None, Result, Ok, Err}
 use Rattle.cells.specs.Cell.{node_cell}
 use Rattle.codes.specs.declared.Axis.{Axis}
 use Rattle.codes.specs.declared.Function.{Function}
@@ -19,8 +17,7 @@ use Rattle.meaning.specs.Catalogue.{catalogue_of}
 use Rattle.meaning.specs.World.{World, step}
 use Rattle.meaning.specs.Meaning.{apply, values}
 use Rattle.meaning.specs.Counted.{Standing, stand, adding}
-use Rattle.nodesets.specs.declared.Marked.{Marked}
-use Rattle.nodesets.specs.declared.Marked.TheVariants.{AllNodes, NotANode}
+use Rattle.nodesets.specs.declared.NotANode.{NotANode}
 use Rattle.nodesets.specs.Nodes.{ranks}
 use Rattle.stack.specs.Stack.{Paired}
 use Rattle.stack.specs.Moves.{raised}
@@ -39,11 +36,10 @@ stepped w room at x t o =
     work o
     (λ s. trying at (w.step x t s.items) (λ xs. raised s.count (adding room at (length s.items) xs)))
 
-abbrev pub Reaches : List ℕ → ℕ → Axis → Test → List ℤ → List Bool → Marked → Type 0
-Reaches doc n x t xs ms AllNodes = step (catalogue_of doc n) x t xs ≡ gives (map node_cell (ranks n ms))
-Reaches doc n x t xs ms NotANode = step (catalogue_of doc n) x t xs ≡ fails
+abbrev pub Reaches : List ℕ → ℕ → Axis → Test → List ℤ → List Bool → Result Unit NotANode → Type 0
+Reaches doc n x t xs ms (Ok u) = step (catalogue_of doc n) x t xs ≡ gives (map node_cell (ranks n ms))
+Reaches doc n x t xs ms (Err e) = step (catalogue_of doc n) x t xs ≡ fails
 
-abbrev pub Valued : World → ℕ → ℕ → List ℤ → List ℤ → Bool → Type 0
-Valued w top n before after true =
-    (ys : List ℤ) × (values w (row before top n) ≡ gives ys) × (length ys ≡ n) × (after ≡ laid before top ys)
-Valued w top n before after false = (values w (row before top n) ≡ fails) × (take top after ≡ take top before)
+abbrev pub Valued : World → List ℤ → List ℤ → Option Unit → Type 0
+Valued w before after (Some u) = values w before ≡ gives after
+Valued w before after None = values w before ≡ fails

@@ -1,16 +1,16 @@
 // What the records of a query that read the catalogue or an item's value do with what their operands left on the stack.
 #![tactic(auto)]
 
-ghost use Rattle.std.specs.Prelude.{◌≡◌, ℕ, ◌+◌, ◌-◌, ◌*◌, ◌≤◌, ◌<◌, length};
+ghost use Rattle.std.specs.Prelude.{ℕ, ◌-◌, ◌*◌, ◌≤◌, ◌<◌, length, Ok};
 ghost use Rattle.meaning.specs.Catalogue.{Catalogue, catalogue_of};
 ghost use Rattle.meaning.specs.World.{world_of};
 ghost use Rattle.step_parts.specs.Steps.{Ready};
 ghost use Rattle.stack.specs.Stack.{stood, paired, Fit, FitPair, EndsPair, Ends, At, Leaves, Lent};
 ghost use Rattle.stack_records.specs.Arms.{rooted, applied, valued, Valued, stepped, Reaches};
 
+use codes::refusals::Stop;
 use codes::{Axis, Function, Test};
-use items::Tried;
-use nodesets::Marked;
+use nodesets::NotANode;
 use stack::{Pair, Stood};
 
 // QR: adds the root of fragment k, where there is one.
@@ -23,103 +23,63 @@ pub fn root(
     work: &mut [i64],
     top: usize,
     room: usize,
-) -> Stood
+) -> Result<Stood, Stop>
     requires { (10 * rows ≤ length doc.now) × (rows < 65536) × (1 ≤ k) × Lent top room work.old }
     ensures { Leaves top room (rooted (world_of (catalogue_of doc.now rows)) (room - top) at k)
         (At next)
         work.old work.new result }
 {
-    let found = items::root(doc, rows, k);
-    let Tried::Gives(cell) = found else {
-        return Stood::Failed(at);
-    };
+    let cell = items::root(doc, rows, k).ok_or(Stop::Failed(at))?;
     stack::put(cell, at, next, work, top, room)
 }
 
-// A function of two sides that have been worked out: how many items each has, and the count; their cells stand from top
-// on.
-fn function(
+// QO: a function of the two operands.
+pub fn apply(
     f: Function,
-    first: usize,
-    second: usize,
-    count: usize,
+    pair: Pair,
     at: usize,
-    next: usize,
     work: &mut [i64],
     top: usize,
-) -> Stood
-    requires { (first + second ≤ count) × (top + count ≤ length work.old) }
-    ensures { (c : Catalogue) (room : ℕ) → top + count ≤ room → Leaves top room
-        (applied (world_of c) at f (paired work.old top (Pair.Items first second count next))) (At next)
-        work.old work.new result }
-{
-    if 1 < first {
-        return Stood::Failed(at);
-    }
-    if 1 < second {
-        return Stood::Failed(at);
-    }
-    if first == 0 {
-        return Stood::Items {
-            length: 0,
-            count,
-            next,
-        };
-    }
-    if second == 0 {
-        return Stood::Items {
-            length: 0,
-            count,
-            next,
-        };
-    }
-    let tried = items::arith(f, work[top], work[top + 1]);
-    let Tried::Gives(cell) = tried else {
-        return Stood::Failed(at);
-    };
-    work[top] = cell;
-    Stood::Items {
-        length: 1,
-        count,
-        next,
-    }
-}
-
-// QO: a function of the two operands.
-pub fn apply(f: Function, pair: Pair, at: usize, work: &mut [i64], top: usize) -> Stood
-    requires { FitPair top (length work.old) pair }
-    ensures { (c : Catalogue) (room : ℕ) → FitPair top room pair → Leaves top room
-        (applied (world_of c) at f (paired work.old top pair)) (EndsPair pair) work.old
+) -> Result<Stood, Stop>
+    requires { FitPair top (length work.old) (Ok pair) }
+    ensures { (c : Catalogue) (room : ℕ) → FitPair top room (Ok pair) → Leaves top room
+        (applied (world_of c) at f (paired work.old top (Ok pair))) (EndsPair (Ok pair)) work.old
         work.new result }
 {
-    let Pair::Items {
+    let Pair {
         first,
         second,
         count,
         next,
-    } = pair
-    else {
-        return stack::join(pair);
-    };
-    function(f, first, second, count, at, next, work, top)
+    } = pair;
+    if first > 1 || second > 1 {
+        return Err(Stop::Failed(at));
+    }
+    if first == 0 || second == 0 {
+        return Ok(Stood {
+            length: 0,
+            count,
+            next,
+        });
+    }
+    let cell = items::arith(f, work[top], work[top + 1]).ok_or(Stop::Failed(at))?;
+    work[top] = cell;
+    Ok(Stood {
+        length: 1,
+        count,
+        next,
+    })
 }
 
-// Puts the value of each of n items in its place; whether every one has a value.
-fn take_values(doc: &[u8], rows: usize, work: &mut [i64], top: usize, n: usize) -> bool
-    requires { (10 * rows ≤ length doc.now) × (top + n ≤ length work.old) }
-    ensures { Valued (world_of (catalogue_of doc.now rows)) top n work.old work.new
-        result }
+// Puts each item's value in its place, where every one has a value.
+fn take_values(doc: &[u8], rows: usize, cells: &mut [i64]) -> Option<()>
+    requires { 10 * rows ≤ length doc.now }
+    ensures { Valued (world_of (catalogue_of doc.now rows)) cells.old cells.new result }
 {
-    let mut i: usize = 0;
-    while i < n {
-        let value = items::value(doc, rows, work[top + i]);
-        let Tried::Gives(cell) = value else {
-            return false;
-        };
-        work[top + i] = cell;
-        i += 1;
+    for cell in cells.iter_mut() {
+        *cell = items::value(doc, rows, *cell)?;
     }
-    true
+    Some(())
 }
 
 // QD: each item's value in its place.
@@ -130,29 +90,19 @@ pub fn values(
     at: usize,
     work: &mut [i64],
     top: usize,
-) -> Stood
-    requires { (10 * rows ≤ length doc.now) × Fit top (length work.old) operand }
-    ensures { (room : ℕ) → Fit top room operand → Leaves top room
-        (valued (world_of (catalogue_of doc.now rows)) at (stood work.old top operand))
-        (Ends operand)
+) -> Result<Stood, Stop>
+    requires { (10 * rows ≤ length doc.now) × Fit top (length work.old) (Ok operand) }
+    ensures { (room : ℕ) → Fit top room (Ok operand) → Leaves top room
+        (valued (world_of (catalogue_of doc.now rows)) at (stood work.old top (Ok operand)))
+        (Ends (Ok operand))
         work.old work.new result }
 {
-    let Stood::Items {
-        length,
-        count: _,
-        next: _,
-    } = operand
-    else {
-        return operand;
-    };
-    if take_values(doc, rows, work, top, length) {
-        operand
-    } else {
-        Stood::Failed(at)
-    }
+    let end = top + operand.length;
+    take_values(doc, rows, &mut work[top..end]).ok_or(Stop::Failed(at))?;
+    Ok(operand)
 }
 
-// Leaves in `to` the marks of the nodes that a step from some items reaches; whether every item is a node.
+// Leaves in `to` the marks of the nodes that a step from some items reaches, where every item is a node.
 fn reach(
     doc: &[u8],
     rows: usize,
@@ -161,16 +111,13 @@ fn reach(
     cells: &[i64],
     from: &mut [bool],
     to: &mut [bool],
-) -> Marked
+) -> Result<(), NotANode>
     requires { Ready doc.now rows from.old to.old }
     ensures { Reaches doc.now rows axis test cells.now to.new result }
 {
-    let marked = nodesets::mark(cells, rows, from);
-    let Marked::AllNodes = marked else {
-        return Marked::NotANode;
-    };
+    nodesets::mark(cells, rows, from)?;
     axes::step(doc, rows, axis, test, from, to);
-    Marked::AllNodes
+    Ok(())
 }
 
 // QX: the nodes that a step reaches, in the place of its items.
@@ -186,34 +133,26 @@ pub fn step(
     room: usize,
     from: &mut [bool],
     to: &mut [bool],
-) -> Stood
-    requires { Lent top room work.old × Fit top room operand × Ready doc.now rows from.old to.old }
+) -> Result<Stood, Stop>
+    requires { Lent top room work.old × Fit top room (Ok operand) × Ready doc.now rows from.old to.old }
     ensures { Leaves top room
         (stepped (world_of (catalogue_of doc.now rows)) (room - top) at axis test
-        (stood work.old top operand))
-        (Ends operand) work.old work.new result }
+        (stood work.old top (Ok operand)))
+        (Ends (Ok operand)) work.old work.new result }
 {
-    let Stood::Items {
-        length,
-        count,
-        next,
-    } = operand
-    else {
-        return operand;
-    };
-    let end = top + length;
-    let marked = reach(doc, rows, axis, test, &work[top..end], from, to);
-    let Marked::AllNodes = marked else {
-        return Stood::Failed(at);
-    };
+    let end = top + operand.length;
+    reach(doc, rows, axis, test, &work[top..end], from, to)
+        .ok()
+        .ok_or(Stop::Failed(at))?;
     let n = nodesets::count(to, rows);
     if room - end < n {
-        return Stood::Full(at);
+        return Err(Stop::Full(at));
     }
     nodesets::write(to, rows, work, top);
-    Stood::Items {
+    let reached = Stood {
         length: n,
-        count: stack::larger(count, length + n),
-        next,
-    }
+        count: operand.length + n,
+        next: operand.next,
+    };
+    Ok(stack::raise(operand.count, reached))
 }

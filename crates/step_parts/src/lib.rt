@@ -14,16 +14,11 @@ fn named(doc: &[u8], v: Rank, name: usize) -> bool
     requires { 10 * v.0 + 10 ≤ length doc.now }
     ensures { (n : ℕ) → result ≡ World.passes (catalogue_of doc.now n) (Test.Named name) v.0 }
 {
-    if doc_rows::kind(doc, v) == 1 {
-        let prop = cells::word4(doc, 10 * v.0 + 6);
-        if prop < 0x8000_0000 {
-            prop == name
-        } else {
-            false
-        }
-    } else {
-        false
+    if doc_rows::kind(doc, v) != 1 {
+        return false;
     }
+    let prop = cells::word4(doc, 10 * v.0 + 6);
+    prop < 0x8000_0000 && prop == name
 }
 
 // Whether a row passes a test.
@@ -44,7 +39,7 @@ pub fn takes(on: bool, doc: &[u8], test: Test, v: Rank) -> bool
     requires { 10 * v.0 + 10 ≤ length doc.now }
     ensures { (n : ℕ) → result ≡ (on && World.passes (catalogue_of doc.now n) test v.0) }
 {
-    if on { passes(doc, test, v) } else { false }
+    on && passes(doc, test, v)
 }
 
 // One of two ranks.

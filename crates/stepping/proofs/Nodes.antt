@@ -1,10 +1,13 @@
 -- Nodes of a group, marked row by row, and the rows of a step (RX).
 --     rows_of_lem                            the rows of a catalogue
+--     some_found                             there is a rank exactly where finding one succeeds
 --     all_fails, all_next, all_end       a test of a whole column, row by row
 --     from_yes, from_no                  the node of a row, where the row is of the group or not
 --     Marking c whole left marks         the nodes of `whole` up to `left` are marked
 --     marking_start, marking_more, marking_fails, marking_end    .. row by row
 --     step_fails, step_full, step_laid   what RX owes for a group
+use Rattle.std.specs.Prelude.{Option, Some, None, Result, Ok, Err}
+use Rattle.std.specs.Option.{is_some}
 use Prim.Native.Nat.{ℕ, suc, ◌+◌, ◌-◌, ◌*◌, ◌≤◌, ◌<◌}
 use mathlib.Core.Path.{◌≡◌, refl, sym, ap, ap₂, ◌∙◌, subst}
 use mathlib.Core.List.{List, [], ◌∷◌, ◌++◌, map, append-nil, append_assoc}
@@ -14,6 +17,7 @@ use lib.IntN.{ℤ, pos}
 use lib.ListN.{length, get_or, drop, drop_of_length-le, length-map}
 use lib.Seq.{drop-cons}
 use Rattle.cells.specs.Cell.{same, node_cell}
+use Rattle.cells.specs.declared.Rank.{Rank}
 use Rattle.codes.specs.declared.Axis.{Axis}
 use Rattle.codes.specs.declared.Test.{Test}
 use Rattle.laws.specs.Lists.{all}
@@ -22,17 +26,16 @@ use Rattle.laws.proofs.Booleans.{by_cases}
 use Rattle.laws.specs.Attempt.{Attempt, fails, gives, attempt}
 use Rattle.meaning.specs.Catalogue.{Catalogue, catalogue_of}
 use Rattle.meaning.specs.World as World
-use Rattle.meaning.specs.World.{ranks_of}
+use Rattle.meaning.specs.World.{ranks_of, step}
 use Rattle.meaning.specs.Operators.{Row, Table, cell, column, group_of}
-use Rattle.nodesets.specs.declared.Marked.{Marked}
-use Rattle.nodesets.specs.declared.Marked.TheVariants.{AllNodes, NotANode}
+use Rattle.nodesets.specs.declared.NotANode.{NotANode}
 use Rattle.step_parts.specs.Steps.{Step}
-use Rattle.nodesets.specs.Nodes.{ranks}
-use Rattle.nodesets.specs.Nodes.{MarkSet, FromOne, FromAll, rows_of}
+use Rattle.nodesets.specs.Nodes.{ranks, found, MarkSet, FromOne, FromAll, rows_of}
 use Rattle.nodesets.proofs.Nodes.{marked_none, one_more, one_fails_lem}
 use Rattle.axes.proofs.Whole as Whole
-use Rattle.tables.specs.declared.Laid.TheVariants.{Rows, Full, Fails}
+use Rattle.tables.specs.declared.Unlaid.TheVariants.{Full, Fails}
 use Rattle.tables.specs.Layout.{Wide, Owes}
+use Rattle.tables.specs.Laying.{succeeds}
 use Rattle.tables.specs.Order.{cell_at}
 use Rattle.stepping.specs.Marking.{FromIf, FromRow}
 use Rattle.tables.proofs.Reading.{length_column, get_d_column}
@@ -41,6 +44,11 @@ use Rattle.members.proofs.Members.{group_yes, group_no, owes_failed}
 pub rows_of_lem : (doc : List ℕ) (n : ℕ) → (catalogue_of doc n).rows ≡ n
 unfolding catalogue_of
 rows_of_lem doc n = refl
+
+pub some_found : (r : Option Rank) → is_some r ≡ succeeds (found r)
+unfolding succeeds
+some_found (Some r) = refl
+some_found None = refl
 
 -- a test of a whole column
 module _ (p : ℤ → Bool) (t : Table) (c i : ℕ) where
@@ -63,16 +71,16 @@ module _ (p : ℤ → Bool) (t : Table) (c i : ℕ) where
   unfolding all
   all_end h = ap (all p) (drop_of_length-le (column t c) {i = i} (omega (arith, length_column t c)))
 
-module _ (c : Catalogue) (x : ℤ) (r : Row) (m : Marked) (old new : List Bool) where
+module _ (c : Catalogue) (x : ℤ) (r : Row) (m : Result (Unit {0}) NotANode) (old new : List Bool) where
   pub from_yes : same x (cell r 0) ≡ true → FromOne c (cell r 1) m old new → FromRow c x r m old new
   from_yes e h = subst (λ (b : Bool). FromIf b c (cell r 1) m old new) (sym e) h
 
-  pub from_no : same x (cell r 0) ≡ false → m ≡ AllNodes → new ≡ old → FromRow c x r m old new
+  pub from_no : same x (cell r 0) ≡ false → m ≡ Ok tt → new ≡ old → FromRow c x r m old new
   from_no e d h = subst (λ (b : Bool). FromIf b c (cell r 1) m old new) (sym e) (d, h)
 
 pub record Marking (c : Catalogue) (whole left : List ℤ) (marks : List Bool) : Type 0 where
   pub done : List ℤ
-  pub from : FromAll c done AllNodes marks
+  pub from : FromAll c done (Ok tt) marks
   pub whole_is : whole ≡ done ++ left
 
 pub marking_start :
@@ -82,9 +90,9 @@ marking_start c whole left marks e h = record { done = []; from = marked_none c 
 
 pub marking_end :
     (c : Catalogue) (whole left : List ℤ) (marks : List Bool) → left ≡ [] → Marking c whole left marks →
-    FromAll c whole AllNodes marks
+    FromAll c whole (Ok tt) marks
 marking_end c whole left marks e m =
-    subst (λ (l : List ℤ). FromAll c l AllNodes marks)
+    subst (λ (l : List ℤ). FromAll c l (Ok tt) marks)
     (sym (m.whole_is ∙ ap (m.done ++◌) e ∙ append-nil m.done)) m.from
 
 -- row i
@@ -100,41 +108,34 @@ module _ (c : Catalogue) (whole : List ℤ) (t : Table) (x : ℤ) (i : ℕ) (old
   left : same x (cell_at t 0 i) ≡ false → whole ≡ m.done ++ rest
   left e = m.whole_is ∙ ap (λ (u : Table). m.done ++ column u 1) (group_no t 0 x i here e)
 
-  pub marking_more :
-      (a : Marked) → a ≡ AllNodes → c.rows ≤ length old → FromRow c x (get_or t i []) a old new
-      → Marking c whole rest new
-  marking_more a d long h =
+  pub marking_more : c.rows ≤ length old → FromRow c x (get_or t i []) (Ok tt) old new → Marking c whole rest new
+  marking_more long h =
       by_cases (same x (cell_at t 0 i))
       (λ e.
-      let one : FromOne c (cell_at t 1 i) AllNodes old new =
-      subst (λ (b : Marked). FromOne c (cell_at t 1 i) b old new) d
-      (subst (λ (b : Bool). FromIf b c (cell_at t 1 i) a old new) e h) in
+      let one = subst (λ (b : Bool). FromIf b c (cell_at t 1 i) (Ok tt) old new) e h in
       record {
         done = m.done ++ (cell_at t 1 i ∷ []);
         from = one_more c m.done old m.from (cell_at t 1 i) new long one;
         whole_is = taken e ∙ sym (append_assoc m.done (cell_at t 1 i ∷ []) rest);
       })
       (λ e.
-      let kept = subst (λ (b : Bool). FromIf b c (cell_at t 1 i) a old new) e h in
+      let kept = subst (λ (b : Bool). FromIf b c (cell_at t 1 i) (Ok tt) old new) e h in
       record {
         done = m.done;
-        from = subst (λ (ms : List Bool). FromAll c m.done AllNodes ms) (sym kept.1) m.from;
+        from = subst (λ (ms : List Bool). FromAll c m.done (Ok tt) ms) (sym kept.1) m.from;
         whole_is = left e;
       })
 
-  pub marking_fails : (a : Marked) → a ≡ NotANode → FromRow c x (get_or t i []) a old new → ranks_of c whole ≡ fails
-  marking_fails a d h =
+  pub marking_fails : (a : NotANode) → FromRow c x (get_or t i []) (Err a) old new → ranks_of c whole ≡ fails
+  marking_fails a h =
       by_cases (same x (cell_at t 0 i))
       (λ e.
-      let one : FromOne c (cell_at t 1 i) NotANode old new =
-      subst (λ (b : Marked). FromOne c (cell_at t 1 i) b old new) d
-      (subst (λ (b : Bool). FromIf b c (cell_at t 1 i) a old new) e h) in
+      let one = subst (λ (b : Bool). FromIf b c (cell_at t 1 i) (Err a) old new) e h in
       ap (ranks_of c) (taken e) ∙ one_fails_lem c m.done old m.from (cell_at t 1 i) rest one.0)
       (λ e.
-      let kept = subst (λ (b : Bool). FromIf b c (cell_at t 1 i) a old new) e h in
-      let clash : NotANode ≡ AllNodes = sym d ∙ kept.0 in
-      let z : ◌≡◌ {A = ℕ} 0 1 = cc in
-      absurd (omega arith))
+      let kept = subst (λ (b : Bool). FromIf b c (cell_at t 1 i) (Err a) old new) e h in
+      let never : Err a ≡ Ok tt = kept.0 in
+      cc)
 
 -- what RX owes for the group of x with the nodes xs
 abbrev step_rows : ℤ → List ℤ → Table
@@ -149,15 +150,20 @@ module _ (doc : List ℕ) (n : ℕ) (axis : Axis) (test : Test) (xs : List ℤ) 
   abbrev rows_made : Attempt Table
   rows_made = attempt (World.step (catalogue_of doc n) axis test xs) (λ ys. gives (step_rows x ys))
 
-  pub step_fails :
-      (m : Marked) (ms : List Bool) → FromAll (catalogue_of doc n) xs m ms → m ≡ NotANode →
-      Owes room at 2 rows_made work work Fails
-  step_fails m ms f e =
-      owes_failed room at 2 (World.step (catalogue_of doc n) axis test xs) (λ ys. gives (step_rows x ys)) work work refl
-      (Whole.step_fails (catalogue_of doc n) axis test xs ms
-      (subst (λ (m : Marked). FromAll (catalogue_of doc n) xs m ms) e f))
+  no_step : ranks_of (catalogue_of doc n) xs ≡ fails → World.step (catalogue_of doc n) axis test xs ≡ fails
+  unfolding step attempt
+  no_step e = rw e
 
-  module _ (m : Marked) (from old new : List Bool) (f : FromAll (catalogue_of doc n) xs m from) (e : m ≡ AllNodes)
+  pub step_fails :
+      (m : Result (Unit {0}) NotANode) (ms : List Bool) → ((u : Unit {0}) → m ≡ Ok u → ⊥) →
+      FromAll (catalogue_of doc n) xs m ms →
+      Owes room at 2 rows_made work work (Err Fails)
+  step_fails (Ok u) ms not f = absurd (not u refl)
+  step_fails (Err e) ms not f =
+      owes_failed room at 2 (World.step (catalogue_of doc n) axis test xs) (λ ys. gives (step_rows x ys)) work work refl
+      (no_step f)
+
+  module _ (from old new : List Bool) (f : FromAll (catalogue_of doc n) xs (Ok tt) from)
       (s : Step doc n axis test from old new) where
     nodes : List ℤ
     nodes = map node_cell (ranks n new)
@@ -165,14 +171,14 @@ module _ (doc : List ℕ) (n : ℕ) (axis : Axis) (test : Test) (xs : List ℤ) 
     gives_nodes : World.step (catalogue_of doc n) axis test xs ≡ gives nodes
     unfolding nodes
     gives_nodes =
-        Whole.step_gives doc n axis test from old new s xs
-        (subst (λ (m : Marked). FromAll (catalogue_of doc n) xs m from) e f)
+        Whole.step_gives doc n axis test from old new s xs f
 
     many : length (step_rows x nodes) ≡ length (ranks n new)
     unfolding nodes
     many = length-map nodes (λ y. x ∷ y ∷ []) ∙ length-map (ranks n new) node_cell
 
-    pub step_full : (k : ℕ) → k ≡ length (ranks n new) → room < at + 2 * k → Owes room at 2 rows_made work work Full
+    pub step_full : (k : ℕ) → k ≡ length (ranks n new) → room < at + 2 * k →
+        Owes room at 2 rows_made work work (Err Full)
     unfolding Owes attempt
     step_full k d h =
         record {
@@ -184,7 +190,7 @@ module _ (doc : List ℕ) (n : ℕ) (axis : Axis) (test : Test) (xs : List ℤ) 
 
     pub step_laid :
         (k : ℕ) (z : ℤ) (after : List ℤ) → k ≡ length (ranks n new) → at + 2 * k ≤ room → z ≡ x →
-        after ≡ laid work at (rows_of z (ranks n new)) → Owes room at 2 rows_made work after (Rows k)
+        after ≡ laid work at (rows_of z (ranks n new)) → Owes room at 2 rows_made work after (Ok k)
     unfolding Owes attempt rows_of nodes
     step_laid k z after d h g l =
         record {

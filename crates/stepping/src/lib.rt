@@ -15,17 +15,14 @@ ghost use Rattle.stepping.specs.Marking.{is_node, FromRow};
 
 use codes::{Axis, Test};
 use members::cell_at;
-use nodesets::{Iteration, Marked, Ranked};
-use tables::{Laid, Stand};
+use nodesets::{Iteration, NotANode};
+use tables::{Laid, Stand, Unlaid};
 
 // Whether a cell holds a node of a catalogue with that many rows.
 fn is_node(cell: i64, rows: usize) -> bool
     ensures { (c : Catalogue) → c.rows ≡ rows → result ≡ is_node c cell }
 {
-    match nodesets::rank_of(cell, rows) {
-        Ranked::At(_) => true,
-        Ranked::NotANode => false,
-    }
+    nodesets::rank_of(cell, rows).is_some()
 }
 
 // Whether column 1 holds nodes only. Each row is looked at once.
@@ -34,12 +31,10 @@ pub fn all_nodes(work: &[i64], s: Stand, rows: usize) -> bool
     ensures { (c : Catalogue) → c.rows ≡ rows
         → result ≡ all (is_node c) (column (table_at work.now s) 1) }
 {
-    let mut i: usize = 0;
-    while i < s.rows {
+    for i in 0..s.rows {
         if !is_node(cell_at(work, s, 1, i), rows) {
             return false;
         }
-        i += 1;
     }
     true
 }
@@ -60,14 +55,14 @@ fn mark_row(
     i: usize,
     rows: usize,
     marks: &mut [bool],
-) -> Marked
+) -> Result<(), NotANode>
     requires { Inside (length work.now) s × (s.width ≡ 2) × (i < s.rows) × (rows ≤ length marks.old) }
     ensures { (c : Catalogue) → c.rows ≡ rows
         → FromRow c iteration.0 (get_or (table_at work.now s) i []) result marks.old
         marks.new }
 {
     if !cells::same(iteration.0, cell_at(work, s, 0, i)) {
-        return Marked::AllNodes;
+        return Ok(());
     }
     nodesets::mark_one(cell_at(work, s, 1, i), rows, marks)
 }
@@ -80,7 +75,7 @@ fn mark_group(
     iteration: Iteration,
     rows: usize,
     marks: &mut [bool],
-) -> Marked
+) -> Result<(), NotANode>
     requires inside { Inside (length work.now) s × (s.width ≡ 2) × (0 < s.rows) × (rows ≤ length marks.old) }
     requires iteration_value { iteration.0 ≡ in_front (table_at work.now s) 0 }
     ensures { (c : Catalogue) → c.rows ≡ rows → FromAll c
@@ -88,15 +83,10 @@ fn mark_group(
         result marks.new }
 {
     nodesets::clear(rows, marks);
-    let mut i: usize = 0;
-    while i < s.rows {
-        let one = mark_row(work, s, iteration, i, rows, marks);
-        let Marked::AllNodes = one else {
-            return Marked::NotANode;
-        };
-        i += 1;
+    for i in 0..s.rows {
+        mark_row(work, s, iteration, i, rows, marks)?;
     }
-    Marked::AllNodes
+    Ok(())
 }
 
 // The rows that RX makes of the first row's group, whose rows are all in s: the cell and a node of the step, by
@@ -121,15 +111,14 @@ pub fn step_group(
         work.old work.new result }
 {
     let iteration = iteration_of(work, s);
-    let marked = mark_group(work, s, iteration, rows, from);
-    let Marked::AllNodes = marked else {
-        return Laid::Fails;
+    let Ok(()) = mark_group(work, s, iteration, rows, from) else {
+        return Err(Unlaid::Fails);
     };
     axes::step(doc, rows, axis, test, from, to);
     let n = nodesets::count(to, rows);
     if room - at < 2 * n {
-        return Laid::Full;
+        return Err(Unlaid::Full);
     }
     nodesets::write_rows(to, rows, iteration, work, at);
-    Laid::Rows(n)
+    Ok(n)
 }

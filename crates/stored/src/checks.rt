@@ -1,28 +1,22 @@
 // The two checks: a line for each case, what the check answers.
 // A case is a byte for the call (1 catalogue, 2 query), then the byte string that the call is given.
+use codes::refusals::Refusal;
 use std::io;
 use std::io::Read;
 use std::rt::Files;
 
-fn refused(rt: &impl Print, call: &str, number: usize, place: usize) -> io::Result<()> {
+fn tell(
+    rt: &impl Print,
+    call: &str,
+    given: &str,
+    answer: Result<usize, Refusal>,
+) -> io::Result<()> {
     rt.print(call)?;
-    cases::refused(rt, number, place)
-}
-
-fn tell_catalogue(rt: &impl Print, doc: &[u8]) -> io::Result<()> {
-    match catalogue::check(doc) {
-        catalogue::Checked::Rows(n) => cases::say(rt, "catalogue rows ", n),
-        catalogue::Checked::Unsound(place) => refused(rt, "catalogue ", 4, place),
+    match answer {
+        Ok(n) => cases::say(rt, given, n)?,
+        Err(refusal) => cases::tell_refusal(rt, refusal)?,
     }
-}
-
-fn tell_query(rt: &impl Print, query: &[u8]) -> io::Result<()> {
-    match queries::check(query) {
-        queries::Checked::Records(n) => cases::say(rt, "query records ", n),
-        queries::Checked::Unsound(place) => refused(rt, "query ", 1, place),
-        queries::Checked::Excess(place) => refused(rt, "query ", 2, place),
-        queries::Checked::Unbound(place) => refused(rt, "query ", 3, place),
-    }
+    println!(rt)
 }
 
 fn one_case(
@@ -32,32 +26,17 @@ fn one_case(
     space: &mut [u8],
 ) -> io::Result<()> {
     let n = cases::load(file, space)?;
+    let given = &space[0..n];
     if call == 1 {
-        tell_catalogue(rt, &space[0..n])?;
+        tell(rt, "catalogue ", "rows ", catalogue::check(given))
     } else {
-        tell_query(rt, &space[0..n])?;
+        tell(rt, "query ", "records ", queries::check(given))
     }
-    println!(rt)
-}
-
-// The cases end where the file does; there are fewer than 30,000.
-fn all_cases(rt: &impl Print, file: &mut impl Read, space: &mut [u8]) -> io::Result<()> {
-    let mut left: usize = 30000;
-    while 0 < left {
-        let call = cases::next_byte(file)?;
-        if call == 0 {
-            return Ok(());
-        }
-        one_case(rt, file, call, space)?;
-        left -= 1;
-    }
-    Ok(())
 }
 
 pub fn all(rt: &(impl Files + Print + Eprint)) -> io::Result<()> {
-    let Some(mut file) = cases::opened(rt, "checks.bin", "== checks\n")? else {
-        return Ok(());
-    };
     let mut space = [0u8; 20490];
-    all_cases(rt, &mut file, &mut space)
+    cases::each_part(rt, "checks.bin", "== checks\n", 30000, |file, _, call| {
+        one_case(rt, file, call, &mut space)
+    })
 }

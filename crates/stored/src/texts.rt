@@ -1,7 +1,5 @@
 // The texts of program `chartask`: of each case its number, then what chartask prints.
 // A group is its number of cases (1 byte), then the catalogue, then each case's query.
-ghost use Rattle.std.specs.Prelude.{◌+◌, ◌≤◌};
-
 use std::io;
 use std::io::Read;
 use std::rt::Files;
@@ -17,7 +15,7 @@ fn print(rt: &impl Print, query: &[u8], doc: &[u8]) -> io::Result<()> {
 }
 
 // The next case of a group.
-fn next_case(
+fn one_case(
     rt: &impl Print,
     file: &mut impl Read,
     number: usize,
@@ -29,64 +27,28 @@ fn next_case(
     print(rt, &query[0..n], doc)
 }
 
-fn each_case(
-    rt: &impl Print,
-    file: &mut impl Read,
-    times: usize,
-    first: usize,
-    query: &mut [u8],
-    doc: &[u8],
-) -> io::Result<()>
-    requires { first + times ≤ 3000000 }
-{
-    let mut left = times;
-    while 0 < left {
-        next_case(rt, file, first + (times - left), query, doc)?;
-        left -= 1;
-    }
-    Ok(())
-}
-
+// The next group, whose cases are numbered from `number` on. The number stays in its type.
 fn one_group(
     rt: &impl Print,
     file: &mut impl Read,
     times: usize,
-    first: usize,
-    query: &mut [u8],
-    doc: &mut [u8],
-) -> io::Result<()>
-    requires { first + times ≤ 3000000 }
-{
-    let m = cases::load(file, doc)?;
-    each_case(rt, file, times, first, query, &doc[0..m])
-}
-
-// The groups end where the file does; there are fewer than 10,000.
-fn all_groups(
-    rt: &impl Print,
-    file: &mut impl Read,
+    number: &mut usize,
     query: &mut [u8],
     doc: &mut [u8],
 ) -> io::Result<()> {
-    let mut left: usize = 10000;
-    let mut first: usize = 1;
-    while 0 < left {
-        let times = cases::next_byte(file)?;
-        if times == 0 {
-            return Ok(());
-        }
-        one_group(rt, file, times, first, query, doc)?;
-        first += times;
-        left -= 1;
+    let m = cases::load(file, doc)?;
+    for _ in 0..times {
+        one_case(rt, file, *number, query, &doc[0..m])?;
+        *number = number.saturating_add(1);
     }
     Ok(())
 }
 
 pub fn all(rt: &(impl Files + Print + Eprint)) -> io::Result<()> {
-    let Some(mut file) = cases::opened(rt, "texts.bin", "== texts\n")? else {
-        return Ok(());
-    };
     let mut query = [0u8; 1024];
     let mut doc = [0u8; 20490];
-    all_groups(rt, &mut file, &mut query, &mut doc)
+    let mut number: usize = 1;
+    cases::each_part(rt, "texts.bin", "== texts\n", 10000, |file, _, times| {
+        one_group(rt, file, times, &mut number, &mut query, &mut doc)
+    })
 }

@@ -1,83 +1,81 @@
--- Columns cell by cell, as loops go through them.
---     column_head, column_none               the first cell of a column, and the others
---     same_cell, seen, unseen, unseen_all    a cell looked for in a column
---     rises_not, rises_next, rises_last      a column that rises, taken apart at its head
-use Prim.Native.Nat.{ℕ, zero, suc, ◌+◌, ◌-◌, ◌≤◌, ◌<◌}
-use mathlib.Core.Path.{◌≡◌, refl, sym, ap, ◌∙◌}
+-- Tests of the cells of a column, by the rows' numbers.
+--     some_row, no_row             a cell of a column passes a test, or none does
+--     each_row, not_row            all neighbours pass a test, or two do not
+use Prim.Native.Nat.{ℕ, zero, suc, ◌-◌, ◌≤◌, ◌<◌}
+use mathlib.Core.Path.{◌≡◌, refl, sym, ap, ap₂, ◌∙◌}
 use mathlib.Core.List.{List, [], ◌∷◌}
-use mathlib.Core.Bool.{true, false, ◌&&◌, ◌||◌}
+use mathlib.Core.Bool.{Bool, true, false, ◌&&◌, ◌||◌}
 use native.Mathlib.Omega.{arith}
 use lib.IntN.{ℤ, pos}
-use lib.ListN.{get_or}
-use Rattle.cells.specs.Cell.{same, before}
+use lib.ListN.{length, get_or}
 use Rattle.laws.specs.Lists.{any}
-use Rattle.laws.specs.Rows.{rows_at}
+use Rattle.laws.proofs.Booleans.{by_cases, clash, both_true, or_left, or_right}
 use Rattle.meaning.specs.Operators.{Table, column}
-use Rattle.tables.specs.Order.{rises}
-use Rattle.tables.proofs.Reading.{cell_read}
-use Rattle.tables.proofs.Unrolled.{rows_head, rows_none}
+use Rattle.tables.specs.Order.{cell_at, each_next}
+use Rattle.tables.proofs.Reading.{length_column, get_d_column}
 
-pub same_cell : (z v : ℤ) (xs : List ℤ) → z ≡ v → any (same z) xs ≡ any (same v) xs
-same_cell z v xs e = ap (λ (u : ℤ). any (same u) xs) e
+-- a test of some member
+module _ (p : ℤ → Bool) where
+  any_at : (zs : List ℤ) (i : ℕ) → i < length zs → p (get_or zs i (pos 0)) ≡ true → any p zs ≡ true
+  unfolding any
+  any_at [] i h e = absurd (omega arith)
+  any_at (z ∷ zs) zero h e = or_left (p z) (any p zs) e
+  any_at (z ∷ zs) (suc i) h e = or_right (p z) (any p zs) (any_at zs i (omega arith) e)
 
-module _ (xs : List ℤ) (a n w c : ℕ) (inside : c < w) where
-  pub column_head :
-      0 < n → column (rows_at xs a n w) c ≡ get_or xs (a + c) (pos 0) ∷ column (rows_at xs (a + w) (n - 1) w) c
-  unfolding column
-  column_head h =
-      ap (λ (t : Table). column t c) (rows_head xs a n w h)
-      ∙ ap (◌∷ column (rows_at xs (a + w) (n - 1) w) c) (cell_read xs a w c inside)
+  none_at : (zs : List ℤ) → ((i : ℕ) → i < length zs → p (get_or zs i (pos 0)) ≡ false) → any p zs ≡ false
+  unfolding any
+  none_at [] f = refl
+  none_at (z ∷ zs) f = ap₂ ◌||◌ (f 0 (omega arith)) (none_at zs (λ i h. f (suc i) (omega arith)))
 
-  pub column_none : n ≡ 0 → column (rows_at xs a n w) c ≡ []
-  unfolding column
-  column_none e = ap (λ (t : Table). column t c) (rows_none xs a n w e)
+  pub some_row : (t : Table) (c i n : ℕ) → length t ≡ n → i < n → p (cell_at t c i) ≡ true → true ≡ any p (column t c)
+  some_row t c i n e h d =
+      sym (any_at (column t c) i (omega (arith, length_column t c)) (ap p (get_d_column t c i) ∙ d))
 
-  -- a cell looked for
-  module _ (z : ℤ) where
-    pub seen : 0 < n → same z (get_or xs (a + c) (pos 0)) ≡ true → any (same z) (column (rows_at xs a n w) c) ≡ true
-    unfolding any
-    seen h e = ap (any (same z)) (column_head h) ∙ ap (◌|| any (same z) (column (rows_at xs (a + w) (n - 1) w) c)) e
+  pub no_row :
+      (t : Table) (c n : ℕ) → length t ≡ n → ((i : ℕ) → i < n → p (cell_at t c i) ≡ false) → false ≡ any p (column t c)
+  no_row t c n e f =
+      sym (none_at (column t c) (λ i h. ap p (get_d_column t c i) ∙ f i (omega (arith, length_column t c))))
 
-    pub unseen :
-        0 < n → same z (get_or xs (a + c) (pos 0)) ≡ false →
-        any (same z) (column (rows_at xs a n w) c) ≡ any (same z) (column (rows_at xs (a + w) (n - 1) w) c)
-    unfolding any
-    unseen h e = ap (any (same z)) (column_head h) ∙ ap (◌|| any (same z) (column (rows_at xs (a + w) (n - 1) w) c)) e
+-- a test of all neighbours
+module _ (p : ℤ → ℤ → Bool) where
+  next_all : (zs : List ℤ)
+      → ((i : ℕ) → suc i < length zs → p (get_or zs i (pos 0)) (get_or zs (suc i) (pos 0)) ≡ true)
+      → each_next p zs ≡ true
+  unfolding each_next
+  next_all [] f = refl
+  next_all (x ∷ []) f = refl
+  next_all (x ∷ y ∷ ys) f =
+      ap₂ ◌&&◌ (f 0 (omega arith)) (next_all (y ∷ ys) (λ i h. f (suc i) (omega arith)))
 
-    pub unseen_all : n ≡ 0 → any (same z) (column (rows_at xs a n w) c) ≡ false
-    unfolding any
-    unseen_all e = ap (any (same z)) (column_none e)
+  next_at : (zs : List ℤ) → each_next p zs ≡ true → (i : ℕ) → suc i < length zs
+      → p (get_or zs i (pos 0)) (get_or zs (suc i) (pos 0)) ≡ true
+  unfolding each_next
+  next_at [] e i h = absurd (omega arith)
+  next_at (x ∷ []) e i h = absurd (omega arith)
+  next_at (x ∷ y ∷ ys) e zero h = (both_true (p x y) (each_next p (y ∷ ys)) e).0
+  next_at (x ∷ y ∷ ys) e (suc i) h = next_at (y ∷ ys) (both_true (p x y) (each_next p (y ∷ ys)) e).1 i (omega arith)
 
--- two neighbours
-module _ (xs : List ℤ) (a n w c : ℕ) (inside : c < w) where
-  module _ (h : 1 < n) where
-    rises_split :
-        rises (column (rows_at xs a n w) c)
-        ≡ (before (get_or xs (a + c) (pos 0)) (get_or xs (a + w + c) (pos 0))
-        && rises (column (rows_at xs (a + w) (n - 1) w) c))
-    unfolding rises
-    rises_split =
-        let next = column_head xs (a + w) (n - 1) w c inside (omega arith) in
-        ap rises (column_head xs a n w c inside (omega arith) ∙ ap (get_or xs (a + c) (pos 0) ∷◌) next)
-        ∙ ap (λ (l : List ℤ). before (get_or xs (a + c) (pos 0)) (get_or xs (a + w + c) (pos 0)) && rises l) (sym next)
+  module _ (t : Table) (c n : ℕ) (e : length t ≡ n) where
+    pub each_row :
+        ((i : ℕ) → 1 ≤ i → i < n → p (cell_at t c (i - 1)) (cell_at t c i) ≡ true) → true ≡ each_next p (column t c)
+    each_row f =
+        let cells : (i : ℕ) → get_or (column t c) i (pos 0) ≡ cell_at t c i = get_d_column t c in
+        sym
+        (next_all (column t c)
+        (λ i h.
+        let back : suc i - 1 ≡ i = omega arith in
+        ap₂ p (cells i ∙ ap (cell_at t c) (sym back)) (cells (suc i))
+        ∙ f (suc i) (omega arith) (omega (arith, length_column t c))))
 
-    pub rises_not :
-        before (get_or xs (a + c) (pos 0)) (get_or xs (a + w + c) (pos 0)) ≡ false
-        → rises (column (rows_at xs a n w) c) ≡ false
-    rises_not e = rises_split ∙ ap (◌&& rises (column (rows_at xs (a + w) (n - 1) w) c)) e
-
-    pub rises_next :
-        before (get_or xs (a + c) (pos 0)) (get_or xs (a + w + c) (pos 0)) ≡ true →
-        rises (column (rows_at xs a n w) c) ≡ rises (column (rows_at xs (a + w) (n - 1) w) c)
-    rises_next e = rises_split ∙ ap (◌&& rises (column (rows_at xs (a + w) (n - 1) w) c)) e
-
-  pub rises_last : n ≤ 1 → rises (column (rows_at xs a n w) c) ≡ true
-  unfolding rises
-  rises_last h = go n refl h
-    where
-      go : (m : ℕ) → n ≡ m → m ≤ 1 → rises (column (rows_at xs a n w) c) ≡ true
-      go zero e h = ap rises (column_none xs a n w c inside e)
-      go (suc m) e h =
-          ap rises
-          (column_head xs a n w c inside (omega arith)
-          ∙ ap (get_or xs (a + c) (pos 0) ∷◌) (column_none xs (a + w) (n - 1) w c inside (omega arith)))
+    pub not_row :
+        (i : ℕ) → 1 ≤ i → i < n → p (cell_at t c (i - 1)) (cell_at t c i) ≡ false → false ≡ each_next p (column t c)
+    not_row i h k d =
+        let up : suc (i - 1) ≡ i = omega arith in
+        let cells : (i : ℕ) → get_or (column t c) i (pos 0) ≡ cell_at t c i = get_d_column t c in
+        by_cases (each_next p (column t c))
+        (λ q.
+        clash
+        (ap₂ p (sym (cells (i - 1))) (ap (cell_at t c) (sym up) ∙ sym (cells (suc (i - 1))))
+        ∙ next_at (column t c) q (i - 1) (omega (arith, length_column t c)))
+        d)
+        sym

@@ -1,69 +1,30 @@
--- A column that climbs, as loops go through it, and what it says of its cells.
---     climbs_not, climbs_next, climbs_last     a column taken apart at its head
+-- What a column that climbs says of its cells.
 --     climbs_tail, climbs_drop   a column that climbs climbs from any row on
 --     climbs_low                 no cell of a column that climbs stands before the first
 --     climbs_at                  .. or before an earlier one
-use Prim.Native.Nat.{ℕ, zero, suc, ◌+◌, ◌-◌, ◌≤◌, ◌<◌}
-use mathlib.Core.Path.{◌≡◌, refl, sym, ap, ◌∙◌}
+use Prim.Native.Nat.{ℕ, zero, suc, ◌≤◌, ◌<◌}
+use mathlib.Core.Path.{◌≡◌, refl}
 use mathlib.Core.List.{List, [], ◌∷◌}
-use mathlib.Core.Bool.{Bool, true, false, not, ◌&&◌}
+use mathlib.Core.Bool.{true, false, not}
 use native.Mathlib.Omega.{arith}
 use lib.IntN.{ℤ, pos}
 use lib.ListN.{length, get_or, drop}
 use borrow.Author.Tests.{not-true}
 use Rattle.cells.specs.Cell.{before}
 use Rattle.cells.proofs.Cells.{before_irrefl, not_before_trans}
-use Rattle.laws.specs.Rows.{rows_at}
 use Rattle.laws.specs.Lists.{All}
 use Rattle.laws.proofs.Lists.{all_map, all_get_d}
 use Rattle.laws.proofs.Booleans.{both_true}
-use Rattle.meaning.specs.Operators.{column}
-use Rattle.tables.specs.Order.{climbs}
-use Rattle.tables.proofs.Cells.{column_head, column_none}
-
--- two neighbours
-module _ (xs : List ℤ) (a n w c : ℕ) (inside : c < w) where
-  module _ (h : 1 < n) where
-    climbs_split :
-        climbs (column (rows_at xs a n w) c)
-        ≡ (not (before (get_or xs (a + w + c) (pos 0)) (get_or xs (a + c) (pos 0)))
-        && climbs (column (rows_at xs (a + w) (n - 1) w) c))
-    unfolding climbs
-    climbs_split =
-        let next = column_head xs (a + w) (n - 1) w c inside (omega arith) in
-        ap climbs (column_head xs a n w c inside (omega arith) ∙ ap (get_or xs (a + c) (pos 0) ∷◌) next)
-        ∙ ap (λ (l : List ℤ). not (before (get_or xs (a + w + c) (pos 0)) (get_or xs (a + c) (pos 0))) && climbs l)
-        (sym next)
-
-    pub climbs_not :
-        before (get_or xs (a + w + c) (pos 0)) (get_or xs (a + c) (pos 0)) ≡ true
-        → climbs (column (rows_at xs a n w) c) ≡ false
-    climbs_not e = climbs_split ∙ ap (λ (t : Bool). not t && climbs (column (rows_at xs (a + w) (n - 1) w) c)) e
-
-    pub climbs_next :
-        before (get_or xs (a + w + c) (pos 0)) (get_or xs (a + c) (pos 0)) ≡ false →
-        climbs (column (rows_at xs a n w) c) ≡ climbs (column (rows_at xs (a + w) (n - 1) w) c)
-    climbs_next e = climbs_split ∙ ap (λ (t : Bool). not t && climbs (column (rows_at xs (a + w) (n - 1) w) c)) e
-
-  pub climbs_last : n ≤ 1 → climbs (column (rows_at xs a n w) c) ≡ true
-  unfolding climbs
-  climbs_last h = go n refl h
-    where
-      go : (m : ℕ) → n ≡ m → m ≤ 1 → climbs (column (rows_at xs a n w) c) ≡ true
-      go zero e h = ap climbs (column_none xs a n w c inside e)
-      go (suc m) e h =
-          ap climbs
-          (column_head xs a n w c inside (omega arith)
-          ∙ ap (get_or xs (a + c) (pos 0) ∷◌) (column_none xs (a + w) (n - 1) w c inside (omega arith)))
+use Rattle.tables.specs.Order.{each_next, climbs}
 
 -- no cell stands before an earlier one
 pub climbs_tail : (x : ℤ) (xs : List ℤ) → climbs (x ∷ xs) ≡ true → climbs xs ≡ true
-unfolding climbs
+unfolding climbs each_next
 climbs_tail x [] e = refl
 climbs_tail x (y ∷ ys) e = (both_true (not (before y x)) (climbs (y ∷ ys)) e).1
 
 pub climbs_low : (x : ℤ) (xs : List ℤ) → climbs (x ∷ xs) ≡ true → All (λ y. before y x ≡ false) xs
-unfolding climbs
+unfolding climbs each_next
 climbs_low x [] e = tt
 climbs_low x (y ∷ ys) e =
     let h = both_true (not (before y x)) (climbs (y ∷ ys)) e in

@@ -3,28 +3,28 @@
 --     laying_full, laying_fails                 a turn passes the room, or fails
 --     laying_stopped                            either of these
 --     row_more, row_stopped, rows_laid          the same of a loop over the rows of a table
+--     turns_start, turn_more, turn_stopped, turns_laid    .. of a `for` over them
 --     counted_fits                              the rows are no more than the room
 --     length_laying                             the cells stay as many
+use Rattle.std.specs.Prelude.{Result, Ok, Err}
+use Rattle.std.specs.Result.{IsErrAnd}
 use Prim.Native.Nat.{ℕ, ◌+◌, ◌-◌, ◌*◌, ◌≤◌, ◌<◌}
-use mathlib.Core.Path.{◌≡◌, refl, sym, ap, ◌∙◌, subst}
+use mathlib.Core.Path.{◌≡◌, refl, sym, ap, ap₂, ◌∙◌, subst}
 use mathlib.Core.List.{List, [], ◌∷◌, ◌++◌, append_assoc, append-nil}
 use native.Mathlib.Omega.{arith}
 use native.Mathlib.Nat.{add-mul, zero-mul, mul-le-mul_right, le-mul_of_pos_right}
 use lib.IntN.{ℤ}
-use denote.Enum.Declared.{tag_of}
-use types.Run.{OneOf, miss}
 use lib.ListN.{length, length-append}
 use Rattle.laws.specs.Lists.{gather}
 use Rattle.laws.specs.Rows.{row, rows_at, laid, flat}
 use Rattle.laws.proofs.Rows.{laid_nothing, laid_more, length_laid}
 use Rattle.laws.specs.Attempt.{Attempt, fails, gives, attempt, each}
 use Rattle.meaning.specs.Operators.{Row, Table}
-use Rattle.tables.specs.declared.Laid.{Laid}
-use Rattle.tables.specs.declared.Laid.TheVariants.{Rows, Full, Fails}
+use Rattle.tables.specs.declared.Unlaid.{Unlaid}
+use Rattle.tables.specs.declared.Unlaid.TheVariants.{Full, Fails}
 use Rattle.tables.specs.Layout.{Wide, Owes}
 use Rattle.tables.specs.Laying.{Settled, Laying}
-use Rattle.tables.specs.contracts.Laid.{the_type}
-use Rattle.tables.proofs.Promise.{flat_append, length_flat, wide_append}
+use Rattle.tables.proofs.Promise.{flat_append, length_flat, wide_append, handed_up}
 use Rattle.tables.proofs.Unrolled.{rows_head, rows_none}
 
 -- rows that have cells are no more than the room
@@ -88,7 +88,7 @@ module _ {A : Type 0} (room at w : ℕ) (f : A → Attempt Table) (entry : List 
         let e = laid_up_to l in
         ap length l.cells_are ∙ length_laid entry at (flat l.done) (omega arith)
 
-    pub laying_end : Laying room at w f whole entry [] ys top n → Owes room at w whole entry ys (Rows n)
+    pub laying_end : Laying room at w f whole entry [] ys top n → Owes room at w whole entry ys (Ok n)
     unfolding Owes each attempt
     laying_end l =
         record {
@@ -103,7 +103,7 @@ module _ {A : Type 0} (room at w : ℕ) (f : A → Attempt Table) (entry : List 
     module _ (x : A) (left : List A) (zs : List ℤ) (inside : room ≤ length entry)
         (l : Laying room at w f whole entry (x ∷ left) ys top n) where
       pub laying_more :
-          (m : ℕ) → Owes room top w (f x) ys zs (Rows m)
+          (m : ℕ) → Owes room top w (f x) ys zs (Ok m)
           → Laying room at w f whole entry left zs (top + m * w) (n + m)
       unfolding Owes
       laying_more m o =
@@ -125,7 +125,8 @@ module _ {A : Type 0} (room at w : ℕ) (f : A → Attempt Table) (entry : List 
             whole_is = l.whole_is ∙ each_more f d x left t o.made_is;
           }
 
-      pub laying_full : Settled whole → Owes room top w (f x) ys zs Full → Owes room at w whole entry zs Full
+      pub laying_full :
+          Settled whole → Owes room top w (f x) ys zs (Err Full) → Owes room at w whole entry zs (Err Full)
       unfolding Owes Settled
       laying_full s o =
           let d = l.done in
@@ -143,7 +144,7 @@ module _ {A : Type 0} (room at w : ℕ) (f : A → Attempt Table) (entry : List 
             long = o.long ∙ length_laying inside l;
           }
 
-      pub laying_fails : Owes room top w (f x) ys zs Fails → Owes room at w whole entry zs Fails
+      pub laying_fails : Owes room top w (f x) ys zs (Err Fails) → Owes room at w whole entry zs (Err Fails)
       unfolding Owes
       laying_fails o =
           record {
@@ -153,11 +154,9 @@ module _ {A : Type 0} (room at w : ℕ) (f : A → Attempt Table) (entry : List 
 
       -- a turn that lays no rows ends the loop with its answer
       pub laying_stopped :
-          (o : Laid) → OneOf (1 ∷ 2 ∷ []) (tag_of the_type o) → Settled whole → Owes room top w (f x) ys zs o →
-          Owes room at w whole entry zs o
-      laying_stopped (Rows m) h s o = absurd (miss (1 ∷ 2 ∷ []) 0 tt h)
-      laying_stopped Full h s o = laying_full s o
-      laying_stopped Fails h s o = laying_fails o
+          (e : Unlaid) → Settled whole → Owes room top w (f x) ys zs (Err e) → Owes room at w whole entry zs (Err e)
+      laying_stopped Full s o = laying_full s o
+      laying_stopped Fails s o = laying_fails o
 
 -- a loop over the rows of a table
 module _ (room at w : ℕ) (f : Row → Attempt Table) (entry : List ℤ) (whole : Attempt Table) (ys : List ℤ)
@@ -168,16 +167,15 @@ module _ (room at w : ℕ) (f : Row → Attempt Table) (entry : List ℤ) (whole
   first_row = subst (λ (t : Table). Laying room at w f whole entry t ys top n) (rows_head entry b left v more) l
 
   pub row_more :
-      (zs : List ℤ) (m : ℕ) → Owes room top w (f (row entry b v)) ys zs (Rows m) →
+      (zs : List ℤ) (m : ℕ) → Owes room top w (f (row entry b v)) ys zs (Ok m) →
       Laying room at w f whole entry (rows_at entry (b + v) (left - 1) v) zs (top + m * w) (n + m)
   row_more zs m o =
       laying_more room at w f entry whole ys top n (row entry b v) (rows_at entry (b + v) (left - 1) v) zs inside
       first_row m o
 
   pub row_stopped :
-      (zs : List ℤ) (o : Laid) → OneOf (1 ∷ 2 ∷ []) (tag_of the_type o) → Settled whole
-      → Owes room top w (f (row entry b v)) ys zs o →
-      Owes room at w whole entry zs o
+      (zs : List ℤ) (e : Unlaid) → Settled whole → Owes room top w (f (row entry b v)) ys zs (Err e) →
+      Owes room at w whole entry zs (Err e)
   row_stopped zs =
       laying_stopped room at w f entry whole ys top n (row entry b v) (rows_at entry (b + v) (left - 1) v) zs inside
       first_row
@@ -185,7 +183,46 @@ module _ (room at w : ℕ) (f : Row → Attempt Table) (entry : List ℤ) (whole
 pub rows_laid :
     (room at w : ℕ) (f : Row → Attempt Table) (entry : List ℤ) (whole : Attempt Table) (ys : List ℤ)
     (top n b left v : ℕ) →
-    left ≡ 0 → Laying room at w f whole entry (rows_at entry b left v) ys top n → Owes room at w whole entry ys (Rows n)
+    left ≡ 0 → Laying room at w f whole entry (rows_at entry b left v) ys top n → Owes room at w whole entry ys (Ok n)
 rows_laid room at w f entry whole ys top n b left v e l =
     laying_end room at w f entry whole ys top n
     (subst (λ (t : Table). Laying room at w f whole entry t ys top n) (rows_none entry b left v e) l)
+
+-- a `for` over the rows of a table
+next_turn : (b i v : ℕ) → b + i * v + v ≡ b + (i + 1) * v
+next_turn b i v = omega (arith, add-mul i 1 v)
+
+pub turns_start :
+    (room at w : ℕ) (f : Row → Attempt Table) (entry : List ℤ) (b rows v : ℕ) → at ≤ room →
+    Laying room at w f (each f (rows_at entry b rows v)) entry (rows_at entry (b + 0 * v) (rows - 0) v) entry at 0
+turns_start room at w f entry b rows v h =
+    let e : b ≡ b + 0 * v = omega (arith, zero-mul v) in
+    let d : rows ≡ rows - 0 = omega arith in
+    subst
+    (λ (t : Table). Laying room at w f (each f (rows_at entry b rows v)) entry t entry at 0)
+    (ap₂ (λ (k m : ℕ). rows_at entry k m v) e d)
+    (laying_start room at w f entry (rows_at entry b rows v) h)
+
+module _ (room at w : ℕ) (f : Row → Attempt Table) (entry : List ℤ) (whole : Attempt Table) (ys : List ℤ)
+    (top n b rows v i : ℕ)
+    (inside : room ≤ length entry)
+    (l : Laying room at w f whole entry (rows_at entry (b + i * v) (rows - i) v) ys top n) where
+  pub turn_more :
+      (zs : List ℤ) (m : ℕ) → i < rows → Owes room top w (f (row entry (b + i * v) v)) ys zs (Ok m) →
+      Laying room at w f whole entry (rows_at entry (b + (i + 1) * v) (rows - (i + 1)) v) zs (top + m * w) (n + m)
+  turn_more zs m h o =
+      let e : rows - i - 1 ≡ rows - (i + 1) = omega arith in
+      subst
+      (λ (t : Table). Laying room at w f whole entry t zs (top + m * w) (n + m))
+      (ap₂ (λ (k m : ℕ). rows_at entry k m v) (next_turn b i v) e)
+      (row_more room at w f entry whole ys top n (b + i * v) (rows - i) v (omega arith) inside l zs m o)
+
+  pub turn_stopped :
+      (zs : List ℤ) (e : Unlaid) (r : Result ℕ Unlaid) → i < rows → IsErrAnd r (λ (d : Unlaid). d ≡ e) → Settled whole →
+      Owes room top w (f (row entry (b + i * v) v)) ys zs (Err e) → Owes room at w whole entry zs r
+  turn_stopped zs e r h k s o =
+      handed_up room at w whole entry zs r e k
+      (row_stopped room at w f entry whole ys top n (b + i * v) (rows - i) v (omega arith) inside l zs e s o)
+
+  pub turns_laid : rows ≤ i → Owes room at w whole entry ys (Ok n)
+  turns_laid h = rows_laid room at w f entry whole ys top n (b + i * v) (rows - i) v (omega arith) l

@@ -5,3 +5,4 @@ pub mod Cells
 pub mod Climbing
 pub mod Laying
 pub mod Standing
+pub mod Copied

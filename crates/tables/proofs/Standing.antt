@@ -5,6 +5,7 @@
 --     laid_fits, length_stands     .. within the room, and the cells stay as many
 --     inside_up                    a table that stands below a cell stands below a later one
 --     table_below, others_stand    a table stands as it did before rows were laid behind
+use Rattle.std.specs.Prelude.{Ok}
 use Prim.Native.Nat.{ℕ, zero, suc, ◌+◌, ◌*◌, ◌≤◌}
 use mathlib.Core.Path.{◌≡◌, refl, sym, ap, ap₂, ◌∙◌}
 use mathlib.Core.List.{List, [], ◌∷◌, ◌++◌, append_assoc}
@@ -19,7 +20,6 @@ use Rattle.laws.proofs.Rows.{length_row, length_laid, rows_at_laid}
 use Rattle.laws.specs.Attempt.{Attempt, gives}
 use Rattle.meaning.specs.Operators.{Table}
 use Rattle.tables.specs.declared.Stand.{Stand}
-use Rattle.tables.specs.declared.Laid.TheVariants.{Rows}
 use Rattle.tables.specs.Layout.{table_at, Inside, Wide, Owes}
 use Rattle.tables.proofs.Promise.{length_flat}
 
@@ -73,12 +73,12 @@ module _ (xs ys : List ℤ) (at : ℕ) (vs : List ℤ) (over : ys ≡ laid xs at
       ∙ rows_at_laid xs at vs u.at u.rows u.width h inside
 
 pub laid_fits :
-    (room at w : ℕ) (m : Attempt Table) (xs ys : List ℤ) (n : ℕ) → Owes room at w m xs ys (Rows n) → at + n * w ≤ room
+    (room at w : ℕ) (m : Attempt Table) (xs ys : List ℤ) (n : ℕ) → Owes room at w m xs ys (Ok n) → at + n * w ≤ room
 unfolding Owes
 laid_fits room at w m xs ys n o = o.fits
 
 module _ (room at w : ℕ) (m : Attempt Table) (xs ys : List ℤ) (n : ℕ) (inside : room ≤ length xs)
-    (o : Owes room at w m xs ys (Rows n)) where
+    (o : Owes room at w m xs ys (Ok n)) where
   pub laid_stands : m ≡ gives (rows_at ys at n w)
   unfolding Owes
   laid_stands =

@@ -7,13 +7,13 @@
 --     Failed ..            it made none: it fails
 --     Owes room at w made entry exit answer
 --         what an operator answers and leaves, where `made` is what its definition makes: one of these three
-use Rattle.std.specs.Prelude.{ℕ, ◌+◌, ◌*◌, ◌≤◌, ◌<◌, ◌≡◌, List, [], ◌∷◌, ℤ, length}
+use Rattle.std.specs.Prelude.{ℕ, ◌+◌, ◌*◌, ◌≤◌, ◌<◌, ◌≡◌, List, [], ◌∷◌, ℤ, length, Result, Ok, Err}
 use Rattle.laws.specs.Rows.{rows_at, laid, flat}
 use Rattle.laws.specs.Attempt.{Attempt, fails, gives}
 use Rattle.meaning.specs.Operators.{Table}
 use Rattle.tables.specs.declared.Stand.{Stand}
-use Rattle.tables.specs.declared.Laid.{Laid}
-use Rattle.tables.specs.declared.Laid.TheVariants.{Rows, Full, Fails}
+use Rattle.tables.specs.declared.Unlaid.{Unlaid}
+use Rattle.tables.specs.declared.Unlaid.TheVariants.{Full, Fails}
 
 unfoldable pub table_at : List ℤ → Stand → Table
 table_at xs s = rows_at xs s.at s.rows s.width
@@ -46,7 +46,7 @@ pub record Failed (made : Attempt Table) (entry exit : List ℤ) : Type 0 where
   pub made_is : made ≡ fails
   pub long : length exit ≡ length entry
 
-unfoldable pub Owes : (room at w : ℕ) → Attempt Table → List ℤ → List ℤ → Laid → Type 0
-Owes room at w made entry exit (Rows n) = Written room at w n made entry exit
-Owes room at w made entry exit Full = Passes room at w made entry exit
-Owes room at w made entry exit Fails = Failed made entry exit
+unfoldable pub Owes : (room at w : ℕ) → Attempt Table → List ℤ → List ℤ → Result ℕ Unlaid → Type 0
+Owes room at w made entry exit (Ok n) = Written room at w n made entry exit
+Owes room at w made entry exit (Err Full) = Passes room at w made entry exit
+Owes room at w made entry exit (Err Fails) = Failed made entry exit

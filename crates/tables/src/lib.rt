@@ -15,22 +15,20 @@ pub struct Stand {
     pub width: usize,
 }
 
-// What an operator answers: how many rows it laid; that they would pass the room; that it fails.
+// Why an operator lays no table: its rows would pass the room, or it fails.
 #[derive(Clone, Copy)]
-pub enum Laid {
-    Rows(usize),
+pub enum Unlaid {
     Full,
     Fails,
 }
+
+// What an operator answers: how many rows it laid, or why none.
+pub type Laid = Result<usize, Unlaid>;
 
 // Copies n cells that stand below `to` to there.
 pub fn copy(work: &mut [i64], from: usize, n: usize, to: usize)
     requires { (from + n ≤ to) × (to + n ≤ length work.old) }
     ensures { work.new ≡ laid work.old to (row work.old from n) }
 {
-    let mut i: usize = 0;
-    while i < n {
-        work[to + i] = work[from + i];
-        i += 1;
-    }
+    work.copy_within(from..from + n, to);
 }

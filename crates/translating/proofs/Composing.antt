@@ -10,7 +10,8 @@ use native.Mathlib.Omega.{arith}
 use lib.ListN.{length, set, length-append}
 use Rattle.meaning.specs.Plan.{Op, RU}
 use Rattle.meaning.specs.Query.{Query, QT, QF, QI}
-use Rattle.meaning.specs.Translation.{Made, Tables, next, hold, free_in, others_in, lifts, lifted, head_f, tail_f, head_i}
+use Rattle.meaning.specs.Translation.{Made, Tables, next, hold, free_in, others_in, lifts, lifted, head_f, tail_f}
+use Rattle.meaning.specs.Translation.{head_i}
 use Rattle.meaning.specs.Translation.{then, tr}
 use Rattle.query_walks.specs.Parse.{Parsed}
 use Rattle.adding.specs.declared.Pen.{Pen}

@@ -4,6 +4,7 @@
 --     kind_parses      the tree of a record whose kind is known
 --     kind_ranged, kind_small     its fields are in their ranges
 --     literal_made, root_made, empty_made, variable_made    what the rules of records without operands write
+use Rattle.std.specs.Prelude.{Option, Some, None}
 use Prim.Native.Nat.{ℕ, ◌-◌, ◌<◌}
 use mathlib.Core.Path.{◌≡◌, sym, ap, ◌∙◌, subst}
 use mathlib.Core.List.{List, []}
@@ -16,8 +17,6 @@ use Rattle.cells.specs.Bytes.{word}
 use Rattle.meaning.specs.Query.{QL, QE, QR, QV, record_of}
 use Rattle.meaning.specs.Translation.{tr, rule_l, rule_e, rule_r}
 use Rattle.laws.proofs.Outcomes.{fails_gives}
-use Rattle.query_records.specs.declared.Reading.{Reading as Found}
-use Rattle.query_records.specs.declared.Reading.TheVariants as Found
 use Rattle.query_records.specs.declared.Decoded.{Decoded}
 use Rattle.query_records.specs.declared.Record.{Record}
 use Rattle.query_records.specs.Decoded as Code
@@ -36,11 +35,11 @@ module _ (bs : List ℕ) (at d : ℕ) (p : Pen) (h : Asked (parse d bs at) p) wh
   pub deep : d ≡ 0 → ⊥
   deep z = fails_gives (h.tree.q, h.tree.end) (sym (shallow_parses bs at d z) ∙ h.tree.given)
 
-  module _ (r : Found) (m : Means r (record_of bs at (word bs at 2))) where
-    pub unsound : r ≡ Found.Unsound → ⊥
+  module _ (r : Option Decoded) (m : Means r (record_of bs at (word bs at 2))) where
+    pub unsound : r ≡ None → ⊥
     unsound u = fails_gives (h.tree.q, h.tree.end) (sym (unfound_parses bs at r m u d) ∙ h.tree.given)
 
-    module _ (f : Decoded) (s : r ≡ Found.Sound f) {k : Record} (e : f.kind ≡ k) where
+    module _ (f : Decoded) (s : r ≡ Some f) {k : Record} (e : f.kind ≡ k) where
       pub kind_parses : parse d bs at ≡ trees (parse (d - 1) bs) at f.next (Code.record_of k)
       kind_parses =
           found_parses bs at r m f s d deep

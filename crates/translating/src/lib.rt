@@ -9,7 +9,7 @@ ghost use Rattle.translating.specs.Translating.{Makes, MakesOne, MakesTwo, Makes
 
 use adding::{Output, Pen};
 use codes::{Axis, Function, Test};
-use query_records::{Reading, Record};
+use query_records::Record;
 
 // QV: the variable's table, and no operator.
 fn variable(tables: [usize; 8], v: usize, pen: Pen, next: usize) -> Output
@@ -21,6 +21,7 @@ fn variable(tables: [usize; 8], v: usize, pen: Pen, next: usize) -> Output
 
 // The plan of the expression at an offset, at most depth levels deep, under the loop's table l. An accepted query has
 // an expression there.
+// As it is: (a) recursion over operands by depth, and `let .. else` at a reader's answer, are forms of document 01.
 #[cycle(apply_branch_choose_count_expression_for_each_let_in_sequence_step_values)]
 pub fn expression(
     query: &[u8],
@@ -35,7 +36,7 @@ pub fn expression(
     ensures { Makes (parse depth query.now at) l tables plan.old pen plan.new
         result }
 {
-    let Reading::Sound(found) = query_records::read(query, at) else {
+    let Some(found) = query_records::read(query, at) else {
         // never: an accepted query has a record here
         return variable(tables, 0, pen, at);
     };

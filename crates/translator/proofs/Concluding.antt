@@ -9,7 +9,8 @@
 --     refusal_answer, refusal_left    what a refusal answers and leaves
 --     call_refused, call_read         what the call owes where the query is refused, and where it is read
 --     call_whole, call_concludes      what the whole plan is asked, and what its outcome gives the call
---     hands_none, hands_is            the query check's answer, handed up
+--     translates_end                  what the call owes, once the rest of the bytes is cleared
+use Rattle.std.specs.Prelude.{Result}
 use Prim.Native.Nat.{ℕ, ◌+◌, ◌*◌, ◌≤◌, ◌<◌}
 use mathlib.Core.Path.{◌≡◌, refl, sym, ap, ap₂, ◌∙◌}
 use mathlib.Core.List.{List, [], ◌∷◌}
@@ -24,9 +25,6 @@ use Rattle.meaning.specs.Written.{written}
 use Rattle.meaning.specs.Calls.{Answer, Outcome, refusal, refused, plan_of, translate_outcome, translate_call}
 use Rattle.laws.specs.Rows.{padded}
 use Rattle.theorems.specs.Closed.{records}
-use Rattle.queries.specs.declared.Checked.{Checked}
-use Rattle.queries.specs.declared.Checked.TheVariants as Checked
-use Rattle.queries.specs.Answers as Queries
 use Rattle.query_walks.specs.Parse.{parse}
 use Rattle.query_walks.proofs.Accepting.{query_accepted}
 use Rattle.pen.proofs.Penned.{cleared_from_0, cleared_penned}
@@ -36,7 +34,8 @@ use Rattle.adding.specs.Ruled.{PenRoom, Wrote}
 use Rattle.lifting.specs.Lifts.{HoldsTables}
 use Rattle.adding.proofs.Adding.{wrote_then, wrote_length}
 use Rattle.translating.specs.Translating.{Tree, Asked, Makes}
-use Rattle.translator.specs.Answers.{WholeQuery, Concludes, answered}
+use Rattle.translator.specs.Answers.{WholeQuery, Concludes, Translates, answered, kept, cleared}
+use Rattle.codes.specs.declared.refusals.Refusal.{Refusal}
 use Rattle.translator.specs.declared.Translated.{Translated}
 use Rattle.translating.proofs.Rooms.{room_less, room_after, ruled_own}
 use Rattle.translating.proofs.Splitting.{ruled_is}
@@ -115,7 +114,8 @@ module _ (q : Query) (x w : List ℕ) (r : Pen) (g : Wrote (plan q) x start w r)
 
   -- a refusal, over cleared bytes
   pub owes_refusal :
-      (n : ℕ) (a : Answer) (y : List ℕ) → translate_outcome (length x) (plan_of (length x) q) ≡ refusal 0 (length x) n 0 →
+      (n : ℕ) (a : Answer) (y : List ℕ) →
+      translate_outcome (length x) (plan_of (length x) q) ≡ refusal 0 (length x) n 0 →
       a ≡ refused n 0 → y ≡ padded 0 (length w) (take 0 w) →
       (a ≡ (translate_outcome (length x) (plan_of (length x) q)).answer) ×
       (y ≡ (translate_outcome (length x) (plan_of (length x) q)).left)
@@ -174,18 +174,15 @@ call_whole bs r e =
     record { q = r.tree; read = a.parses; few = a.few }
 
 pub call_concludes :
-    (bs x z : List ℕ) (r : Read) (t : Translated) → query_read bs ≡ reads r → Concludes bs x z t →
+    (bs x z : List ℕ) (r : Read) (t : Result Translated Refusal) → query_read bs ≡ reads r → Concludes bs x z t →
     (answered t ≡ (translate_call bs (length x)).answer) × (z ≡ (translate_call bs (length x)).left)
 call_concludes bs x z r t e g =
     let same = sym (call_read bs (length x) r e) in
     let owed = g r.tree (query_accepted bs r e).parses in
     (owed.0 ∙ ap (λ (o : Outcome ℕ). o.answer) same, owed.1 ∙ ap (λ (o : Outcome ℕ). o.left) same)
 
--- the refusals of the query check
-
-pub hands_none : (n k p : ℕ) → Queries.answered (Checked.Records n) ≡ refused k p → ⊥
-unfolding Queries.answered
-hands_none n k p e = let z : ◌≡◌ {A = ℕ} 0 1 = cc in omega arith
-
-pub hands_is : (c d : Checked) (k p : ℕ) → c ≡ d → Queries.answered c ≡ refused k p → Queries.answered d ≡ refused k p
-hands_is c d k p s e = sym (ap Queries.answered s) ∙ e
+-- what the call owes of what was planned, once the rest is cleared
+pub translates_end :
+    (bs x y z : List ℕ) (r s : Result Translated Refusal) (k : ℕ) → Translates bs x (cleared (kept r) y) r → s ≡ r →
+    k ≡ kept r → z ≡ cleared k y → Translates bs x z s
+translates_end bs x y z r s k g e f h = (ap answered e ∙ g.0, h ∙ ap (λ (n : ℕ). cleared n y) f ∙ g.1)

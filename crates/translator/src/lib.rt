@@ -3,40 +3,23 @@
 
 ghost use Rattle.std.specs.Prelude.{◌≡◌, length};
 ghost use Rattle.meaning.specs.Calls.{translate_call};
-ghost use Rattle.translator.specs.Answers.{answered, Hands, WholeQuery, Concludes};
+ghost use Rattle.translator.specs.Answers.{answered, kept, cleared, WholeQuery, Concludes, Translates};
 
 use adding::{Operator, Pen};
 use codes::limits::{LEVELS, OPERATORS};
-use queries::Checked;
+use codes::refusals::{Reason, Refusal};
 
-// The answer of the translator, with the place of a refusal.
+// A plan that was written: how many operators it has, and how many bytes.
 #[derive(Clone, Copy)]
-pub enum Translated {
-    Plan { operators: usize, bytes: usize },
-    Unsound(usize),
-    Excess(usize),
-    Unbound(usize),
-    Longer,
+pub struct Translated {
+    pub operators: usize,
+    pub bytes: usize,
 }
 
-// The refusal of the query check, handed up.
-fn handed_up(checked: Checked) -> Translated
-    ensures { Hands checked result }
-{
-    match checked {
-        // never: an accepted query is not refused
-        Checked::Records(_) => Translated::Longer,
-        Checked::Unsound(place) => Translated::Unsound(place),
-        Checked::Excess(place) => Translated::Excess(place),
-        Checked::Unbound(place) => Translated::Unbound(place),
-    }
-}
-
-// The plan of an accepted query, zeros after it; 2 at 0 over 512 operators, then 8 at 0 where it is longer than the
-// lent bytes.
-fn whole(query: &[u8], plan: &mut [u8]) -> Translated
+// The plan of an accepted query; 2 at 0 over 512 operators, then 8 at 0 where it is longer than the lent bytes.
+fn whole(query: &[u8], plan: &mut [u8]) -> Result<Translated, Refusal>
     requires { WholeQuery query.now }
-    ensures { Concludes query.now plan.old plan.new result }
+    ensures { Concludes query.now plan.old (cleared (kept result) plan.new) result }
 {
     let start = Pen {
         operators: 0,
@@ -51,27 +34,39 @@ fn whole(query: &[u8], plan: &mut [u8]) -> Translated
     let many = OPERATORS < operators;
     let longer = plan.len() < bytes;
     if many {
-        pen::clear(plan, 0);
-        return Translated::Excess(0);
+        return Err(Refusal {
+            reason: Reason::Excess,
+            place: 0,
+        });
     }
     if longer {
-        pen::clear(plan, 0);
-        return Translated::Longer;
+        return Err(Refusal {
+            reason: Reason::Longer,
+            place: 0,
+        });
     }
-    pen::clear(plan, bytes);
-    Translated::Plan { operators, bytes }
+    Ok(Translated { operators, bytes })
+}
+
+// The query's refusals 1, 2, 3, then those of its plan; else the plan.
+fn planned(query: &[u8], plan: &mut [u8]) -> Result<Translated, Refusal>
+    ensures { Translates query.now plan.old (cleared (kept result) plan.new) result }
+{
+    queries::check(query)?;
+    whole(query, plan)
 }
 
 // The translator: the query's refusals 1, 2, 3; then 2 at 0 over 512 operators; then 8 at 0; else the plan, zeros after
 // it. A refusal leaves zeros.
-pub fn translate(query: &[u8], plan: &mut [u8]) -> Translated
+pub fn translate(query: &[u8], plan: &mut [u8]) -> Result<Translated, Refusal>
     ensures { (answered result ≡ (translate_call query.now (length plan.old)).answer) ×
         (plan.new ≡ (translate_call query.now (length plan.old)).left) }
 {
-    let checked = queries::check(query);
-    let Checked::Records(_) = checked else {
-        pen::clear(plan, 0);
-        return handed_up(checked);
+    let answer = planned(query, plan);
+    let bytes = match answer {
+        Ok(translated) => translated.bytes,
+        Err(_) => 0,
     };
-    whole(query, plan)
+    pen::clear(plan, bytes);
+    answer
 }

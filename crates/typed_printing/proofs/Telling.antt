@@ -10,8 +10,7 @@ use mathlib.Core.Bool.{Bool, true, false, cond}
 use native.Mathlib.Omega.{arith}
 use native.Mathlib.Nat.{sub-zero}
 use borrow.Author.Tests.{leb-true}
-use denote.Enum.Declared.{tag_of}
-use types.Run.{OneOf, miss}
+use Rattle.std.specs.Prelude.{Result, Ok, Err}
 use lib.Dec.{leb}
 use lib.IntN.{ℤ}
 use lib.ListN.{length, take, replicate}
@@ -20,18 +19,16 @@ use Rattle.laws.specs.Attempt.{Reading, refuses, reads}
 use Rattle.laws.specs.Rows.{padded}
 use Rattle.meaning.specs.Query.{Read, query_read}
 use Rattle.meaning.specs.Calls.{Answer, gives, refused, Outcome, refusal}
-use Rattle.verdicts.specs.declared.Told.{Told}
-use Rattle.verdicts.specs.declared.Told.TheVariants.{Gave, Refused}
+use Rattle.codes.specs.Refusals.{number_of}
+use Rattle.codes.specs.declared.refusals.Refusal.{Refusal}
+use Rattle.verdicts.specs.Compared.{Told, Gave, Refused, told}
 use Rattle.lines.specs.Text as Text
 use Rattle.lines.specs.Text.{refused_line, same_no, Nowhere}
-use Rattle.lines.specs.Printed.{told_by}
 use Rattle.lines.specs.Placed.{Put}
 use Rattle.lines.proofs.Putting.{put_is, put_text, put_length}
 use Rattle.lines.proofs.SameNo.{no_same_no}
 use Rattle.grammar.specs.Typed.{TypedCall, outside, inside, records_outcome}
 use Rattle.reader.specs.declared.Typed.{Typed}
-use Rattle.reader.specs.declared.Typed.TheVariants.{Records, Outside, Excess, Unbound, Longer}
-use Rattle.reader.specs.contracts.Typed.{the_type}
 use Rattle.reader.specs.Answers.{answered, outcome}
 use Rattle.printing.specs.Engines.{TellsText}
 use Rattle.typed_printing.specs.Telling.{TellsTyped, refused_text, records_text}
@@ -97,62 +94,41 @@ records_call t l o j k (inside bs typed e) a =
     records_given l bs (query_read bs) j k (sym (ap (λ (x : Outcome ℕ). x.answer) e) ∙ a) in
     (bs, long, ap (λ (x : Outcome ℕ). x.left) e ∙ left, fits)
 
--- the reader gave no records
-refusal_of : (x : Typed) → OneOf (1 ∷ 2 ∷ 3 ∷ 4 ∷ []) (tag_of the_type x) → (k p : ℕ) × (answered x ≡ refused k p)
-unfolding answered
-refusal_of (Records n m) h = absurd (miss (1 ∷ 2 ∷ 3 ∷ 4 ∷ []) 0 tt h)
-refusal_of (Outside p) h = (9, p, refl)
-refusal_of (Excess p) h = (2, p, refl)
-refusal_of (Unbound p) h = (3, p, refl)
-refusal_of Longer h = (8, 0, refl)
-
--- the text of a refusal, whatever else is told
-refused_text_is : (k p : ℕ) (a : Answer) (ran evaluated : Told) (xs ys : List ℤ) → a ≡ refused k p
-    → Text.text (told_by 0 a) ran xs evaluated ys ≡ refused_line k p
-unfolding Text.text told_by
-refused_text_is k p a ran evaluated xs ys e =
-    ap (λ (b : Answer). Text.text (told_by 0 b) ran xs evaluated ys) e
-
+-- the text of a refusal
 refused_quiet : (k p : ℕ) → Nowhere same_no (refused_line k p)
 unfolding Text.text
 refused_quiet k p =
-    no_same_no (Refused k p) (Gave 0) [] (Gave 0) []
-    (λ j e. absurd (let z : ◌≡◌ {A = ℕ} 0 1 = cc in omega arith))
+    no_same_no (Refused k p) (Gave 0) [] (Gave 0) [] (λ j e. absurd (let z : ◌≡◌ {A = ℕ} 0 1 = cc in omega arith))
 
-module _ (x : Typed) (typed query : List ℕ) (l : ℕ) (call : TypedCall typed l (outcome x query)) where
-  gave : (records bytes : ℕ) → x ≡ Records records bytes → (outcome x query).answer ≡ gives (records ∷ bytes ∷ [])
+module _ (x : Result Typed Refusal) (typed query : List ℕ) (l : ℕ) (call : TypedCall typed l (outcome x query)) where
+  gave : (m : Typed) → x ≡ Ok m → (outcome x query).answer ≡ gives (m.records ∷ m.bytes ∷ [])
   unfolding answered
-  gave records bytes e = ap answered e
+  gave m e = ap answered e
 
   -- the record bytes stand in the lent bytes
-  pub bytes_within : (records bytes : ℕ) → x ≡ Records records bytes → bytes ≤ l
-  bytes_within records bytes e =
+  pub bytes_within : (m : Typed) → x ≡ Ok m → m.bytes ≤ l
+  bytes_within m e =
       let (bs, size, left, fits) =
-      records_call typed l (outcome x query) records bytes call (gave records bytes e) in
+      records_call typed l (outcome x query) m.records m.bytes call (gave m e) in
       fits
 
   module _ (long : l ≡ 1024) (doc plan : List ℕ) (work kept : List ℤ) (text text' : List ℕ) (n : ℕ) where
     call_is : (o : Outcome ℕ) → outcome x query ≡ o → TypedCall typed 1024 o
     call_is o e = subst (TypedCall typed 1024) e (subst (λ (j : ℕ). TypedCall typed j (outcome x query)) long call)
 
-    pub tells_refused : (told ran evaluated : Told) (xs ys : List ℤ) → told ≡ told_by 0 (answered x)
-        → OneOf (1 ∷ 2 ∷ 3 ∷ 4 ∷ []) (tag_of the_type x)
-        → Put text text' 0 (Text.text told ran xs evaluated ys) n
+    pub tells_refused : (r : Refusal) (ran evaluated : Told) (xs ys : List ℤ) → x ≡ Err r
+        → Put text text' 0 (Text.text (told (Err r)) ran xs evaluated ys) n
         → TellsTyped typed doc query plan plan work work kept kept text text' n
         × (n ≤ length text') × Nowhere same_no (take n text')
-    unfolding refusal
-    tells_refused told ran evaluated xs ys tells h p =
-        let (k, q, a) = refusal_of x h in
-        let is : outcome x query ≡ refusal 0 1024 k q =
-        refused_call typed l (outcome x query) k q call a ∙ ap (λ (j : ℕ). refusal 0 j k q) long in
-        let line : Text.text told ran xs evaluated ys ≡ refused_line k q =
-        ap (λ (t : Told). Text.text t ran xs evaluated ys) tells
-        ∙ refused_text_is k q (answered x) ran evaluated xs ys a in
-        let put : Put text text' 0 (refused_line k q) n = put_is _ _ _ _ _ p _ line in (
+    unfolding refusal answered Text.text
+    tells_refused r ran evaluated xs ys h put =
+        let is : outcome x query ≡ refusal 0 1024 (number_of r.reason) r.place =
+        refused_call typed l (outcome x query) (number_of r.reason) r.place call (ap answered h)
+        ∙ ap (λ (j : ℕ). refusal 0 j (number_of r.reason) r.place) long in (
           refused_text (record {
-            number = k;
-            place = q;
-            call = call_is (refusal 0 1024 k q) is;
+            number = number_of r.reason;
+            place = r.place;
+            call = call_is (refusal 0 1024 (number_of r.reason) r.place) is;
             query_left = ap (λ (o : Outcome ℕ). o.left) is;
             plan_left = refl;
             work_left = refl;
@@ -160,7 +136,7 @@ module _ (x : Typed) (typed query : List ℕ) (l : ℕ) (call : TypedCall typed 
             put = put;
           }),
           omega (arith, put.fits, put_length text 0 text' _ n put),
-          subst (λ (t : List ℕ). Nowhere same_no t) (sym (put_text text text' _ n put)) (refused_quiet k q),
+          subst (λ (t : List ℕ). Nowhere same_no t) (sym (put_text text text' _ n put)) (refused_quiet (number_of r.reason) r.place),
         )
 
     -- the records, as they stand in the lent bytes
@@ -171,24 +147,24 @@ module _ (x : Typed) (typed query : List ℕ) (l : ℕ) (call : TypedCall typed 
         ∙ ap (take bytes) left
         ∙ take_at bs (replicate (1024 - length bs) 0) bytes size
 
-    pub tells_records : (records bytes : ℕ) (plan' : List ℕ) (work' kept' : List ℤ) → x ≡ Records records bytes
-        → TellsText (take (bytes - 0) query) doc plan' work work' kept kept' text text' n
+    pub tells_records : (m : Typed) (plan' : List ℕ) (work' kept' : List ℤ) → x ≡ Ok m
+        → TellsText (take (m.bytes - 0) query) doc plan' work work' kept kept' text text' n
         → TellsTyped typed doc query plan plan' work work' kept kept' text text' n
         × (n ≤ length text') × Nowhere same_no (take n text')
-    tells_records records bytes plan' work' kept' e t =
-        let a : (outcome x query).answer ≡ gives (records ∷ bytes ∷ []) = gave records bytes e in
-        let (bs, size, left, fits) = records_call typed l (outcome x query) records bytes call a in
+    tells_records m plan' work' kept' e t =
+        let a : (outcome x query).answer ≡ gives (m.records ∷ m.bytes ∷ []) = gave m e in
+        let (bs, size, left, fits) = records_call typed l (outcome x query) m.records m.bytes call a in
         let stands : query ≡ padded 0 1024 bs = left ∙ ap (λ (j : ℕ). padded 0 j bs) long in (
           records_text (record {
-            records = records;
+            records = m.records;
             bytes = bs;
             call =
-                call_is (record { answer = gives (records ∷ length bs ∷ []); left = padded 0 1024 bs })
-                (same_outcome (a ∙ ap (λ (j : ℕ). gives (records ∷ j ∷ [])) (sym size)) stands);
+                call_is (record { answer = gives (m.records ∷ length bs ∷ []); left = padded 0 1024 bs })
+                (same_outcome (a ∙ ap (λ (j : ℕ). gives (m.records ∷ j ∷ [])) (sym size)) stands);
             query_left = stands;
             tells =
                 subst (λ (b : List ℕ). TellsText b doc plan' work work' kept kept' text text' n)
-                (whole bs bytes size stands) t;
+                (whole bs m.bytes size stands) t;
           }),
           t.within,
           t.never_no,

@@ -8,12 +8,12 @@ use mathlib.Core.List.{List}
 use mathlib.Core.Bool.{Bool}
 use native.Mathlib.Omega.{arith}
 use lib.ListN.{length, drop}
+use Rattle.std.specs.Prelude.{Err}
 use Rattle.grammar.specs.Words.{Kind, symbol}
 use Rattle.parsing.specs.declared.Ends.{Ends}
 use Rattle.parsing.specs.declared.Ends.TheVariants.{WithList}
 use Rattle.parsing.specs.Reader.{stuck, readers, read_single}
-use Rattle.operands.specs.declared.PartRead.TheVariants as part
-use Rattle.operands.specs.Going.{PartGoes}
+use Rattle.operands.specs.Going.{PartGoes, part_value}
 use Rattle.operands.proofs.Follows.{part_stuck}
 use Rattle.typing.specs.declared.Chain.TheVariants.{Items}
 use Rattle.typing.specs.Cycle.{inner_expr, inner_single, whole_of}
@@ -39,9 +39,10 @@ module _ (d : ℕ) (t : List ℕ) where
 
 module _ (text : List ℕ) (made at d : ℕ) (keeps : ℕ → List ℕ → Type 0) (l : ℕ) (none : l ≡ 0)
     (h : at ≤ length text) where
-  pub expr_stuck : PartGoes text made (inner_expr (readers l) d (drop at text)) keeps (part.Stuck at)
+  pub expr_stuck : PartGoes part_value text made (inner_expr (readers l) d (drop at text)) keeps
+      (Err (record { 0 = at }))
   expr_stuck = part_stuck keeps (record { means = expr_zero d (drop at text) l none; inside = h })
 
   pub single_stuck : (e : Ends) (k : Kind)
-      → PartGoes text made (inner_single (readers l) d e k (drop at text)) keeps (part.Stuck at)
+      → PartGoes part_value text made (inner_single (readers l) d e k (drop at text)) keeps (Err (record { 0 = at }))
   single_stuck e k = part_stuck keeps (record { means = single_zero d (drop at text) e k l none; inside = h })

@@ -8,21 +8,24 @@
 use Prim.Native.Nat.{ℕ, ◌≤◌}
 use mathlib.Core.List.{List, ◌++◌, append_assoc}
 use native.Mathlib.Omega.{arith}
+use Rattle.std.specs.Prelude.{Result, Ok, Err}
 use Rattle.grammar.specs.Words.{symbol}
+use Rattle.numerals.specs.declared.Stuck.{Stuck}
+use Rattle.parsing.specs.declared.Next.{Next}
 use Rattle.parsing.specs.Reader.{Res, then, Went, went, operand}
 use Rattle.recording.specs.Recorded.{Inserts}
-use Rattle.operands.specs.declared.PartRead.{PartRead}
-use Rattle.operands.specs.declared.PartRead.TheVariants as part
-use Rattle.operands.specs.Going.{PartIs, OperandIs, PartGoes, OperandGoes, Adding, Putting}
+use Rattle.operands.specs.declared.Part.{Part}
+use Rattle.operands.specs.Going.{PartIs, PartGoes, Adding, Putting, operand_value, part_value}
 use Rattle.typing.specs.Cycle.{ended_read}
 
 module _ {text : List ℕ} {made : ℕ} {keeps : ℕ → List ℕ → Type 0} {def : Res Went} (make : List ℕ → List ℕ) (from : ℕ)
     (keeps' : ℕ → List ℕ → Type 0) where
-  pub part_within : (r : PartRead) → from ≤ made → ((to : ℕ) (bs : List ℕ) → keeps to bs → keeps' to (make bs))
-      → PartGoes text made def keeps r
-      → PartGoes text from (then def (λ w. went (make w.made) w.next)) keeps' r
+  pub part_within : (r : Result (Part Next) Stuck) → from ≤ made
+      → ((to : ℕ) (bs : List ℕ) → keeps to bs → keeps' to (make bs))
+      → PartGoes part_value text made def keeps r
+      → PartGoes part_value text from (then def (λ w. went (make w.made) w.next)) keeps' r
   unfolding PartIs
-  part_within (part.Past n at to) l f h =
+  part_within (Ok p) l f h =
       let g = h.goes in
       record {
         goes =
@@ -32,17 +35,18 @@ module _ {text : List ℕ} {made : ℕ} {keeps : ℕ → List ℕ → Type 0} {d
               inside = g.inside;
               grows = omega (arith, g.grows);
               within = g.within;
-              kept = f to g.bytes g.kept;
+              kept = f p.made g.bytes g.kept;
             };
       }
-  part_within (part.Stuck p) l f h =
+  part_within (Err s) l f h =
       record { goes = record { means = rw h.goes.means; inside = h.goes.inside } }
 
-  pub ended_within : (r : PartRead) → from ≤ made → ((to : ℕ) (bs : List ℕ) → keeps to bs → keeps' to (make bs))
-      → PartGoes text made def keeps r
-      → OperandGoes text from (then def (λ w. operand (make w.made) symbol)) keeps' (ended_read r)
-  unfolding PartIs OperandIs
-  ended_within (part.Past n at to) l f h =
+  pub ended_within : (r : Result (Part Next) Stuck) → from ≤ made
+      → ((to : ℕ) (bs : List ℕ) → keeps to bs → keeps' to (make bs))
+      → PartGoes part_value text made def keeps r
+      → PartGoes operand_value text from (then def (λ w. operand (make w.made) symbol)) keeps' (ended_read r)
+  unfolding PartIs
+  ended_within (Ok p) l f h =
       let g = h.goes in
       record {
         goes =
@@ -52,10 +56,10 @@ module _ {text : List ℕ} {made : ℕ} {keeps : ℕ → List ℕ → Type 0} {d
               inside = g.inside;
               grows = omega (arith, g.grows);
               within = g.within;
-              kept = f to g.bytes g.kept;
+              kept = f p.made g.bytes g.kept;
             };
       }
-  ended_within (part.Stuck p) l f h =
+  ended_within (Err s) l f h =
       record { goes = record { means = rw h.goes.means; inside = h.goes.inside } }
 
 module _ {before between after : List ℕ} {made m to : ℕ} {ys bs : List ℕ} where

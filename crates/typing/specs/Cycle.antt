@@ -8,19 +8,18 @@
 --     again_of c                  the readers of shorter texts, for the chain behind a turn
 --     one_turn c xs n             one turn behind records xs, at operator n
 --     more_of c, whole_of c        a chain behind its first side; a whole chain
-use Rattle.std.specs.Prelude.{ℕ, List, ◌++◌, Bool, true, false}
+use Rattle.std.specs.Prelude.{ℕ, List, ◌++◌, Bool, false, Result, Ok, Err}
 use Rattle.grammar.specs.Words.{Kind, symbol, word, then_word}
 use Rattle.parsing.specs.declared.Ends.{Ends}
 use Rattle.parsing.specs.declared.Ends.TheVariants.{WithList, WithElse}
 use Rattle.parsing.specs.declared.Next.{Next}
-use Rattle.parsing.specs.Reader.{Reader, then, either, entry, read_word, Readers, Operand, Went, went, operation, kind_of}
-use Rattle.parsing.specs.Reader.{turn}
+use Rattle.parsing.specs.Reader.{Reader, then, either, entry, read_word, Readers, Operand, Went, went, operation}
+use Rattle.parsing.specs.Reader.{kind_of, turn}
 use Rattle.parsing.specs.Reader.{read_false, read_primary, read_path, read_product, read_sum, read_single}
+use Rattle.numerals.specs.declared.Stuck.{Stuck}
+use Rattle.spelling.specs.declared.Before.{Before}
 use Rattle.spelling.specs.declared.Before.TheVariants.{Symbol}
-use Rattle.operands.specs.declared.OperandRead as operand
-use Rattle.operands.specs.declared.OperandRead.TheVariants as operand-is
-use Rattle.operands.specs.declared.PartRead as part
-use Rattle.operands.specs.declared.PartRead.TheVariants as part_is
+use Rattle.operands.specs.declared.Part.{Part}
 use Rattle.typing.specs.declared.Chain.{Chain}
 use Rattle.typing.specs.declared.Chain.TheVariants.{Items, Sides, Terms, Factors}
 
@@ -30,9 +29,9 @@ level_of Sides = 1
 level_of Terms = 2
 level_of Factors = 3
 
-abbrev pub ended_read : part.PartRead → operand.OperandRead
-ended_read (part_is.Past n at to) = operand-is.Past Symbol at to
-ended_read (part_is.Stuck p) = operand-is.Stuck p
+abbrev pub ended_read : Result (Part Next) Stuck → Result (Part Before) Stuck
+ended_read (Ok p) = Ok (record { behind = Symbol; next = p.next; made = p.made })
+ended_read (Err s) = Err s
 
 module _ (rd : Readers) (d : ℕ) where
   abbrev pub inner_expr : Reader Went

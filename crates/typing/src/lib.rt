@@ -13,9 +13,9 @@ ghost use Rattle.grammar.specs.Grammar.{most_groups};
 ghost use Rattle.parsing.specs.declared.Ends.TheVariants.{WithText};
 
 use beginnings::Beginning;
-use numerals::Fixed;
+use numerals::Stuck;
 use openings::Opening;
-use operands::{OperandRead, PartRead};
+use operands::{OperandRead, Part, PartRead};
 use parsing::{Ends, Next};
 use paths::{behind, insert_operation, kind_of, tightness};
 use spelling::{Before, enter, fixed};
@@ -33,6 +33,7 @@ pub enum Chain {
 }
 
 // How tightly the operators of a chain bind.
+// As it is: (a) a number for a level is the word of the definition, `Reader.tightness`.
 fn level(chain: Chain) -> usize
     ensures { result ≡ Cycle.level_of chain }
 {
@@ -48,10 +49,11 @@ fn level(chain: Chain) -> usize
 fn ended(part: PartRead) -> OperandRead
     ensures { result ≡ Cycle.ended_read part }
 {
-    match part {
-        PartRead::Past(_, from, to) => OperandRead::Past(Before::Symbol, from, to),
-        PartRead::Stuck(place) => OperandRead::Stuck(place),
-    }
+    part.map(|part| Part {
+        behind: Before::Symbol,
+        next: part.next,
+        made: part.made,
+    })
 }
 
 // A list inside a part. measure: left * 32
@@ -69,7 +71,7 @@ fn list(
         (Cycle.inner_expr (Reader.readers left) parens (drop at text.now)) result }
 {
     if left == 0 {
-        return PartRead::Stuck(at);
+        return Err(Stuck(at));
     }
     whole(
         text,
@@ -104,7 +106,7 @@ fn inner(
         (drop at text.now)) result }
 {
     if left == 0 {
-        return PartRead::Stuck(at);
+        return Err(Stuck(at));
     }
     single(text, query, at, made, left - 1, parens, ends, before)
 }
@@ -127,11 +129,17 @@ fn two(
         (Cycle.two_parts (Reader.readers left) parens first (Answers.kind_is before) ends
         (drop at text.now)) result }
 {
-    let answer = inner(text, query, at, made, left, parens, first, before);
-    let PartRead::Past(_, from, to) = answer else {
-        return answer;
-    };
-    inner(text, query, from, to, left, parens, ends, Before::Word)
+    let one = inner(text, query, at, made, left, parens, first, before)?;
+    inner(
+        text,
+        query,
+        one.next,
+        one.made,
+        left,
+        parens,
+        ends,
+        Before::Word,
+    )
 }
 
 // The parts of `if`. measure: left * 32 + 2
@@ -149,24 +157,19 @@ fn choice(
     ensures { Going.ReadsPart text.now query.old query.new made
         (Cycle.three_parts (Reader.readers left) parens ends (drop at text.now)) result }
 {
-    let answer = list(text, query, at, made, left, parens);
-    let PartRead::Past(_, from, to) = answer else {
-        return answer;
-    };
-    match fixed(text, from, Before::Symbol, b"then") {
-        Fixed::Past(next) => two(
-            text,
-            query,
-            next,
-            to,
-            left,
-            parens,
-            Ends::WithElse,
-            Before::Word,
-            ends,
-        ),
-        Fixed::Stuck(place) => PartRead::Stuck(place),
-    }
+    let condition = list(text, query, at, made, left, parens)?;
+    let next = fixed(text, condition.next, Before::Symbol, b"then")?;
+    two(
+        text,
+        query,
+        next,
+        condition.made,
+        left,
+        parens,
+        Ends::WithElse,
+        Before::Word,
+        ends,
+    )
 }
 
 // An operand. measure: left * 32 + 2
@@ -188,24 +191,28 @@ fn operand(
     if begun {
         return operands::truth(text, query, at, made, b"alse", false);
     }
-    match enter(text, at, before) {
-        Fixed::Past(from) => match openings::primary(text, query, from, made, parens) {
-            Opening::Whole(read) => read,
-            Opening::List(next, inside) => ended(list(text, query, next, made, left, inside)),
-            Opening::Call(next, to) => {
-                ended(inner(
-                    text,
-                    query,
-                    next,
-                    to,
-                    left,
-                    parens,
-                    Ends::WithCall,
-                    Before::Symbol,
-                ))
-            }
-        },
-        Fixed::Stuck(place) => OperandRead::Stuck(place),
+    let from = enter(text, at, before)?;
+    match openings::primary(text, query, from, made, parens)? {
+        Opening::Whole(read) => Ok(read),
+        Opening::List {
+            from: next,
+            parens: inside,
+        } => ended(list(text, query, next, made, left, inside)),
+        Opening::Call {
+            from: next,
+            made: to,
+        } => {
+            ended(inner(
+                text,
+                query,
+                next,
+                to,
+                left,
+                parens,
+                Ends::WithCall,
+                Before::Symbol,
+            ))
+        }
     }
 }
 
@@ -228,12 +235,18 @@ fn path(
         (Reader.read_path (Reader.readers left) parens ends compared begun (Answers.kind_is before)
         (drop at text.now)) result }
 {
-    match operand(text, query, at, made, left, parens, begun, before) {
-        OperandRead::Past(kind, from, to) => behind(
-            text, query, made, from, to, left, ends, compared, kind,
-        ),
-        OperandRead::Stuck(place) => PartRead::Stuck(place),
-    }
+    let first = operand(text, query, at, made, left, parens, begun, before)?;
+    behind(
+        text,
+        query,
+        made,
+        first.next,
+        first.made,
+        left,
+        ends,
+        compared,
+        first.behind,
+    )
 }
 
 // One side of a chain's operator. measure: left * 32 + 5 * (4 - level) + 1
@@ -294,38 +307,38 @@ fn side(
     }
 }
 
-// One turn of a chain: its operator's record goes before what stands from `start` on. measure: side's and 1
+// One turn of a chain behind a part: its operator's record goes before what stands from `start` on. measure: side's
+// and 1
 #[cycle(text)]
 fn turn(
     text: &[u8],
     query: &mut [u8],
     start: usize,
-    at: usize,
-    made: usize,
+    part: Part<Next>,
     left: usize,
     parens: usize,
     ends: Ends,
     compared: bool,
-    next: Next,
     chain: Chain,
 ) -> PartRead
-    requires { (at ≤ length text.now) × (length query.old ≡ most_bytes) × (made ≤ most_bytes) × (start ≤ made) }
+    requires { (part.next ≤ length text.now) × (length query.old ≡ most_bytes) × (part.made ≤ most_bytes)
+        × (start ≤ part.made) }
     ensures { (ys : List ℕ) → Going.FollowsPart text.now query.old query.new
-        start made ys (Cycle.one_turn chain (Reader.readers left) parens ends compared ys next
-        (drop at text.now)) result }
+        start part.made ys (Cycle.one_turn chain (Reader.readers left) parens ends compared ys part.behind
+        (drop part.next text.now)) result }
 {
-    let to = insert_operation(query, start, made, next);
+    let to = insert_operation(query, start, part.made, part.behind);
     side(
         text,
         query,
-        at,
+        part.next,
         to,
         left,
         parens,
         ends,
         compared,
         false,
-        kind_of(next),
+        kind_of(part.behind),
         chain,
     )
 }
@@ -336,43 +349,33 @@ fn more(
     text: &[u8],
     query: &mut [u8],
     start: usize,
-    at: usize,
-    made: usize,
+    part: Part<Next>,
     left: usize,
     parens: usize,
     ends: Ends,
     compared: bool,
-    next: Next,
     chain: Chain,
 ) -> PartRead
-    requires { (at ≤ length text.now) × (length query.old ≡ most_bytes) × (made ≤ most_bytes) × (start ≤ made)
-        × (Cycle.level_of chain ≡ 1 → ⊥) }
+    requires { (part.next ≤ length text.now) × (length query.old ≡ most_bytes) × (part.made ≤ most_bytes)
+        × (start ≤ part.made) × (Cycle.level_of chain ≡ 1 → ⊥) }
     ensures { (ys : List ℕ) → Going.FollowsPart text.now query.old query.new
-        start made ys (Cycle.more_of chain (Reader.readers left) parens ends compared ys next
-        (drop at text.now)) result }
+        start part.made ys (Cycle.more_of chain (Reader.readers left) parens ends compared ys part.behind
+        (drop part.next text.now)) result }
 {
-    let mut at = at;
-    let mut made = made;
+    let mut part = part;
     let mut left = left;
-    let mut next = next;
-    loop {
-        if tightness(next) != level(chain) {
-            return PartRead::Past(next, at, made);
-        }
-        let answer = turn(
-            text, query, start, at, made, left, parens, ends, compared, next, chain,
-        );
-        let PartRead::Past(found, from, to) = answer else {
-            return answer;
-        };
+    // As it is: (d) each turn says where the next begins, so no range counts them.
+    while tightness(part.behind) == level(chain) {
+        let next = turn(
+            text, query, start, part, left, parens, ends, compared, chain,
+        )?;
         if left == 0 {
-            return PartRead::Stuck(from);
+            return Err(Stuck(next.next));
         }
         left -= 1;
-        next = found;
-        at = from;
-        made = to;
+        part = next;
     }
+    Ok(part)
 }
 
 // A whole chain. measure: side's and 3
@@ -396,16 +399,12 @@ fn whole(
         (Cycle.whole_of chain (Reader.readers left) parens ends compared begun (Answers.kind_is before)
         (drop at text.now)) result }
 {
-    match side(
+    let first = side(
         text, query, at, made, left, parens, ends, compared, begun, before, chain,
-    ) {
-        PartRead::Past(next, from, to) => {
-            more(
-                text, query, made, from, to, left, parens, ends, compared, next, chain,
-            )
-        }
-        PartRead::Stuck(place) => PartRead::Stuck(place),
-    }
+    )?;
+    more(
+        text, query, made, first, left, parens, ends, compared, chain,
+    )
 }
 
 // A comparison: at most one. measure: side's of Sides and 4
@@ -424,7 +423,7 @@ fn sides(
     ensures { Going.ReadsPart text.now query.old query.new made
         (Reader.read_sides (Reader.readers left) parens ends begun Words.symbol (drop at text.now)) result }
 {
-    let answer = side(
+    let first = side(
         text,
         query,
         at,
@@ -436,24 +435,19 @@ fn sides(
         begun,
         Before::Symbol,
         Chain::Sides,
-    );
-    let PartRead::Past(next, from, to) = answer else {
-        return answer;
-    };
-    if tightness(next) != 1 {
-        return answer;
+    )?;
+    if tightness(first.behind) != 1 {
+        return Ok(first);
     }
     turn(
         text,
         query,
         made,
-        from,
-        to,
+        first,
         left,
         parens,
         ends,
         true,
-        next,
         Chain::Sides,
     )
 }
@@ -475,8 +469,12 @@ fn single(
         (Reader.read_single (Reader.readers left) parens ends (Answers.kind_is before)
         (drop at text.now)) result }
 {
-    match beginnings::single(text, query, at, made, before) {
-        Beginning::Binding(from, to, kind) => {
+    match beginnings::single(text, query, at, made, before)? {
+        Beginning::Binding {
+            from,
+            made: to,
+            before: kind,
+        } => {
             two(
                 text,
                 query,
@@ -489,9 +487,10 @@ fn single(
                 ends,
             )
         }
-        Beginning::Choice(from, to) => choice(text, query, from, to, left, parens, ends),
-        Beginning::Sides(from, begun) => sides(text, query, from, made, left, parens, ends, begun),
-        Beginning::Stuck(place) => PartRead::Stuck(place),
+        Beginning::Choice { from, made: to } => choice(text, query, from, to, left, parens, ends),
+        Beginning::Sides { from, begun } => {
+            sides(text, query, from, made, left, parens, ends, begun)
+        }
     }
 }
 

@@ -3,12 +3,10 @@
 
 pub mod comparing;
 
-// What a call told: how many it gave, items or operators; or a refusal's number and place.
-#[derive(Clone, Copy)]
-pub enum Told {
-    Gave(usize),
-    Refused(usize, usize),
-}
+use codes::refusals::Refusal;
+
+// What a call told: how many it gave, items or operators; or its refusal.
+pub type Told = Result<usize, Refusal>;
 
 // Whether the engines agree, or either had no room.
 #[derive(Clone, Copy)]

@@ -10,10 +10,9 @@ ghost use Rattle.meaning.specs.Operators.{rooted};
 ghost use Rattle.meaning.specs.World.{world_of};
 ghost use Rattle.tables.specs.Layout.{table_at, Inside, Owes};
 
-use items::Tried;
 use rowwise::Task;
 use rowwise::each::rowwise;
-use tables::{Laid, Stand, copy};
+use tables::{Laid, Stand, Unlaid, copy};
 
 // RT: one row of one cell, 1.
 pub fn one(work: &mut [i64], at: usize, room: usize) -> Laid
@@ -21,10 +20,10 @@ pub fn one(work: &mut [i64], at: usize, room: usize) -> Laid
     ensures { Owes room at 1 (gives ((pos 1 ∷ []) ∷ [])) work.old work.new result }
 {
     if room <= at {
-        return Laid::Full;
+        return Err(Unlaid::Full);
     }
     work[at] = 1;
-    Laid::Rows(1)
+    Ok(1)
 }
 
 // A table once more. Each of its cells is copied once.
@@ -35,10 +34,10 @@ pub fn again(work: &mut [i64], s: Stand, at: usize, room: usize) -> Laid
 {
     let cells = s.rows * s.width;
     if room - at < cells {
-        return Laid::Full;
+        return Err(Unlaid::Full);
     }
     copy(work, s.at, cells, at);
-    Laid::Rows(s.rows)
+    Ok(s.rows)
 }
 
 // RU: the rows of t, then those of u. Each of their cells is copied once.
@@ -48,15 +47,9 @@ pub fn union(work: &mut [i64], t: Stand, u: Stand, at: usize, room: usize) -> La
     ensures { Owes room at t.width (gives (table_at work.old t ++ table_at work.old u))
         work.old work.new result }
 {
-    let first = again(work, t, at, room);
-    let Laid::Rows(n) = first else {
-        return first;
-    };
-    let second = again(work, u, at + n * t.width, room);
-    let Laid::Rows(m) = second else {
-        return second;
-    };
-    Laid::Rows(n + m)
+    let n = again(work, t, at, room)?;
+    let m = again(work, u, at + n * t.width, room)?;
+    Ok(n + m)
 }
 
 // RO: adds the cell of fragment k's root, which is looked for where t has a row. One look through the catalogue; each
@@ -78,11 +71,9 @@ pub fn root(
         work.old work.new result }
 {
     if t.rows == 0 {
-        return Laid::Rows(0);
+        return Ok(0);
     }
     let tried = items::root(doc, rows, k);
-    let Tried::Gives(z) = tried else {
-        return Laid::Fails;
-    };
+    let z = tried.ok_or(Unlaid::Fails)?;
     rowwise(plan, doc, rows, work, t, Task::Attach(z), at, room)
 }

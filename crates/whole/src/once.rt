@@ -4,23 +4,24 @@ ghost use Rattle.laws.specs.Attempt.{gives, provided};
 ghost use Rattle.meaning.specs.Operators;
 ghost use Rattle.tables.specs.Layout.{table_at, Inside, Owes};
 
-use tables::order::{occurs, rises};
-use tables::{Laid, Stand};
+use tables::order::{cell_at, occurs, rises};
+use tables::{Laid, Stand, Unlaid};
 
 // Whether no cell of column c stands there again further down: each row against those below it.
 fn apart(work: &[i64], s: Stand, c: usize) -> bool
     requires { Inside (length work.now) s × (c < s.width) }
     ensures { result ≡ Operators.once (Operators.column (table_at work.now s) c) }
 {
-    let w = s.width;
-    let mut a = s.at;
-    let mut left = s.rows;
-    while 0 < left {
-        if occurs(work, work[a + c], a + w, left - 1, w, c) {
+    for i in 0..s.rows {
+        let next = i + 1;
+        let below = Stand {
+            at: s.at + next * s.width,
+            rows: s.rows - next,
+            ..s
+        };
+        if occurs(work, cell_at(work, s, c, i), below, c) {
             return false;
         }
-        a += w;
-        left -= 1;
     }
     true
 }
@@ -30,10 +31,7 @@ pub fn unrepeated(work: &[i64], s: Stand, c: usize) -> bool
     requires { Inside (length work.now) s × (c < s.width) }
     ensures { result ≡ Operators.once (Operators.column (table_at work.now s) c) }
 {
-    if rises(work, s, c) {
-        return true;
-    }
-    apart(work, s, c)
+    rises(work, s, c) || apart(work, s, c)
 }
 
 // RK: the table once more, where no cell of column c occurs twice.
@@ -45,7 +43,7 @@ pub fn once(work: &mut [i64], s: Stand, c: usize, at: usize, room: usize) -> Lai
         work.old work.new result }
 {
     if !unrepeated(work, s, c) {
-        return Laid::Fails;
+        return Err(Unlaid::Fails);
     }
     crate::again(work, s, at, room)
 }

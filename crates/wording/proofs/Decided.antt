@@ -1,38 +1,58 @@
 -- The contract of `write` decides its answer and every lent byte (document 02, L1).
+--     reason_of       the reason of a number
 --     case_of         the case that number and values tell
 --     same_answer    two answers with the same number and values are equal
 --     decided        two outcomes that the contract allows are equal, answer and bytes
+use Rattle.std.specs.Prelude.{Result, Ok, Err}
 use Prim.Native.Nat.{ℕ}
 use mathlib.Core.Bool.{cond}
 use mathlib.Core.List.{List, [], ◌∷◌}
 use mathlib.Core.Path.{◌≡◌, refl, ap, sym, ◌∙◌}
 use lib.Dec.{eqb}
+use Rattle.codes.specs.Refusals.{number_of, refusal}
+use Rattle.codes.specs.declared.refusals.Reason.{Reason}
+use Rattle.codes.specs.declared.refusals.Refusal.{Refusal}
 use Rattle.meaning.specs.Calls.{Answer, gives, refused}
 use Rattle.grammar.specs.Written.{write_call}
 use Rattle.wording.specs.Answers.{answered}
-use Rattle.wording.specs.declared.Written.{Written}
-use Rattle.wording.specs.declared.Written.TheVariants.{Text, Unsound, Excess, Unbound, Longer}
 
-unfoldable case_of : Answer → Written
-case_of (gives []) = Text 0
-case_of (gives (n ∷ ns)) = Text n
-case_of (refused n p) =
-    cond (eqb n 1) (Unsound p) (cond (eqb n 2) (Excess p) (cond (eqb n 3) (Unbound p) Longer))
+abbrev reason_of : ℕ → Reason
+reason_of k =
+    cond (eqb k 1) Reason.Record
+    (cond (eqb k 2) Reason.Excess
+    (cond (eqb k 3) Reason.Unbound
+    (cond (eqb k 4) Reason.Catalogue
+    (cond (eqb k 5) Reason.Plan
+    (cond (eqb k 6) Reason.Room
+    (cond (eqb k 7) Reason.Failure (cond (eqb k 8) Reason.Longer Reason.Outside)))))))
 
-case_is : (a : Written) → case_of (answered a) ≡ a
+reason_is : (r : Reason) → reason_of (number_of r) ≡ r
+reason_is Reason.Record = refl
+reason_is Reason.Excess = refl
+reason_is Reason.Unbound = refl
+reason_is Reason.Catalogue = refl
+reason_is Reason.Plan = refl
+reason_is Reason.Room = refl
+reason_is Reason.Failure = refl
+reason_is Reason.Longer = refl
+reason_is Reason.Outside = refl
+
+unfoldable case_of : Answer → Result ℕ Refusal
+case_of (gives []) = Ok 0
+case_of (gives (n ∷ ns)) = Ok n
+case_of (refused k p) = Err (refusal (reason_of k) p)
+
+case_is : (a : Result ℕ Refusal) → case_of (answered a) ≡ a
 unfolding case_of answered
-case_is (Text n) = refl
-case_is (Unsound p) = refl
-case_is (Excess p) = refl
-case_is (Unbound p) = refl
-case_is Longer = refl
+case_is (Ok n) = refl
+case_is (Err r) = ap (λ (k : Reason). Err (refusal k r.place)) (reason_is r.reason)
 
-pub same_answer : (a b : Written) → answered a ≡ answered b → a ≡ b
+pub same_answer : (a b : Result ℕ Refusal) → answered a ≡ answered b → a ≡ b
 same_answer a b e = sym (case_is a) ∙ ap case_of e ∙ case_is b
 
 module _ (query : List ℕ) (lent : ℕ) where
-  abbrev Allowed : Written → List ℕ → Type 0
+  abbrev Allowed : Result ℕ Refusal → List ℕ → Type 0
   Allowed a xs = (answered a ≡ (write_call query lent).answer) × (xs ≡ (write_call query lent).left)
 
-  pub decided : (a b : Written) (xs ys : List ℕ) → Allowed a xs → Allowed b ys → (a ≡ b) × (xs ≡ ys)
+  pub decided : (a b : Result ℕ Refusal) (xs ys : List ℕ) → Allowed a xs → Allowed b ys → (a ≡ b) × (xs ≡ ys)
   decided a b xs ys h k = (same_answer a b (h.0 ∙ sym k.0), h.1 ∙ sym k.1)

@@ -1,10 +1,12 @@
 -- What each step of the writer asks and leaves.
 --     deep, unsound            there is a tree, so the depth left is not 0, and there is a record
+--     grouped_is               whether a record's text is grouped, by its level
 --     headed                   the record's fields are in their ranges
 --     open_room .. close_room, operands_asked     room for each piece of an expression's text
 --     expression_makes         the pieces, one after another, are the expression's text
 --     none_makes, one_asked .. three_makes        the operands of a record, by how many there are
 --     first_asked .. two_made, choice_asked .. choice_made      two operands, and three, one after another
+use Rattle.std.specs.Prelude.{Option, Some, None}
 use Prim.Native.Nat.{ℕ, ◌+◌, ◌-◌, ◌^◌, ◌<◌}
 use mathlib.Core.Path.{◌≡◌, sym, ap, ◌∙◌, subst}
 use mathlib.Core.Bool.{Bool}
@@ -20,7 +22,6 @@ use Rattle.pen.proofs.Putting.{pens_none, pens_more, pens_as}
 use Rattle.grammar.specs.Words.{else_word}
 use Rattle.grammar.specs.Grammar.{Level, expr, single}
 use Rattle.grammar.specs.Written.{looser, opening, closing, enclosed, spaced, then_text, text_of}
-use Rattle.query_records.specs.declared.Reading.{Reading as Found}
 use Rattle.query_records.specs.declared.Decoded.{Decoded}
 use Rattle.query_records.specs.declared.Record.{Record}
 use Rattle.query_records.specs.declared.Operands.{Operands}
@@ -28,12 +29,19 @@ use Rattle.query_records.specs.Decoded.{Means, record_of, operands_of}
 use Rattle.query_records.proofs.Callers.{found_sound, found_small}
 use Rattle.query_walks.specs.Parse.{Parsed, trees, parse}
 use Rattle.query_walks.proofs.Callers.{unfound_parses, found_parses, shallow_parses}
-use Rattle.levels.specs.Levels.{own_of, first_of, second_of}
+use Rattle.levels.specs.declared.Level.{Level as Code}
+use Rattle.levels.specs.Levels.{level_of, own_of, first_of, second_of}
 use Rattle.phrases.specs.Phrases.{head_of, between_of, tail_of, Headed}
 use Rattle.wording.specs.declared.Spot.{Spot}
 use Rattle.wording.specs.Wording.{inner, pair_text, choice_text, Asked, AskedOperands, AskedTwo, AskedThree}
 use Rattle.wording.specs.Wording.{Makes, MakesOperands, MakesTwo, MakesThree, Lays}
 use Rattle.wording.proofs.Laying.{trees_whole, trees_lays}
+
+-- whether a record's text is grouped, by its level
+pub grouped_is :
+    (o : Code) (k : Record) (l : Level) {g : Bool} → level_of o ≡ own_of k → g ≡ looser (level_of o) l →
+    g ≡ looser (own_of k) l
+grouped_is o k l e h = h ∙ ap (λ (x : Level). looser x l) e
 
 -- The pieces of an expression's text
 
@@ -59,11 +67,11 @@ module _ (bs : List ℕ) (at d : ℕ) (l : Level) (end : ℕ) (h : Asked (parse 
   pub open_room : end + 1 < 2 ^ 64
   open_room = omega (arith, h.room)
 
-  module _ (r : Found) (m : Means r (recordIn bs at (word bs at 2))) where
-    pub unsound : r ≡ Found.Unsound → ⊥
+  module _ (r : Option Decoded) (m : Means r (recordIn bs at (word bs at 2))) where
+    pub unsound : r ≡ None → ⊥
     unsound u = fails_gives h.found (sym (unfound_parses bs at r m u d) ∙ h.given)
 
-    module _ (f : Decoded) (s : r ≡ Found.Sound f) (g : Bool) (e : g ≡ looser (own_of f.kind) l) where
+    module _ (f : Decoded) (s : r ≡ Some f) (g : Bool) (e : g ≡ looser (own_of f.kind) l) where
       abbrev own : List ℕ → List ℕ
       own i = head_of (record_of f.kind) ++ (i ++ tail_of (record_of f.kind))
 

@@ -7,28 +7,18 @@ ghost use Rattle.query_walks.specs.Parse.{parse};
 ghost use Rattle.levels.specs.Levels.{level_of};
 ghost use Rattle.wording.specs.Wording.{Asked, AskedOperands, AskedTwo, AskedThree};
 ghost use Rattle.wording.specs.Wording.{Makes, MakesOperands, MakesTwo, MakesThree};
-ghost use Rattle.wording.specs.Answers.{answered, Hands, Whole, Concludes};
+ghost use Rattle.wording.specs.Answers.{answered, WritesWhole};
 
 use codes::limits::LEVELS;
+use codes::refusals::{Reason, Refusal};
 use levels::Level;
-use queries::Checked;
-use query_records::{Operands, Reading, Record};
+use query_records::{Operands, Record};
 
 // Where writing stands behind an expression: the offset after its records, the position after its text.
 #[derive(Clone, Copy)]
 pub struct Spot {
     pub next: usize,
     pub end: usize,
-}
-
-// The answer of the writer, with the place of a refusal.
-#[derive(Clone, Copy)]
-pub enum Written {
-    Text(usize),
-    Unsound(usize),
-    Excess(usize),
-    Unbound(usize),
-    Longer,
 }
 
 // The text of the expression at an offset, at most depth levels deep, where a level is asked for. An accepted query has
@@ -46,7 +36,7 @@ fn expression(
     ensures { Makes (parse depth query.now at) (text_of (level_of level)) text.old end
         text.new result }
 {
-    let Reading::Sound(found) = query_records::read(query, at) else {
+    let Some(found) = query_records::read(query, at) else {
         // never: an accepted query has a record here
         return Spot { next: at, end };
     };
@@ -112,43 +102,29 @@ fn three(query: &[u8], at: usize, depth: usize, text: &mut [u8], end: usize) -> 
     expression(query, a.next, depth, Level::Single, text, second)
 }
 
-// The refusal of the query check, handed up.
-fn handed_up(checked: Checked) -> Written
-    ensures { Hands checked result }
+// The text of a query over lent bytes, whatever stands after it: the query's refusals 1, 2, 3; then 8 at 0 where it is
+// longer than the lent bytes.
+fn whole(query: &[u8], text: &mut [u8]) -> Result<usize, Refusal>
+    ensures { WritesWhole query.now text.old text.new result }
 {
-    match checked {
-        // never: an accepted query is not refused
-        Checked::Records(_) => Written::Longer,
-        Checked::Unsound(place) => Written::Unsound(place),
-        Checked::Excess(place) => Written::Excess(place),
-        Checked::Unbound(place) => Written::Unbound(place),
-    }
-}
-
-// The text of an accepted query, zeros after it; 8 at 0 where it is longer than the lent bytes.
-fn whole(query: &[u8], text: &mut [u8]) -> Written
-    requires { Whole query.now }
-    ensures { Concludes query.now text.old text.new result }
-{
+    queries::check(query)?;
     let spot = expression(query, 0, LEVELS, Level::Expr, text, 0);
     let bytes = spot.end;
     if text.len() < bytes {
-        pen::clear(text, 0);
-        return Written::Longer;
+        return Err(Refusal {
+            reason: Reason::Longer,
+            place: 0,
+        });
     }
-    pen::clear(text, bytes);
-    Written::Text(bytes)
+    Ok(bytes)
 }
 
 // The writer: the query's refusals 1, 2, 3; then 8 at 0; else the text, zeros after it. A refusal leaves zeros.
-pub fn write(query: &[u8], text: &mut [u8]) -> Written
+pub fn write(query: &[u8], text: &mut [u8]) -> Result<usize, Refusal>
     ensures { (answered result ≡ (write_call query.now (length text.old)).answer) ×
         (text.new ≡ (write_call query.now (length text.old)).left) }
 {
-    let checked = queries::check(query);
-    let Checked::Records(_) = checked else {
-        pen::clear(text, 0);
-        return handed_up(checked);
-    };
-    whole(query, text)
+    let written = whole(query, text);
+    pen::clear(text, written.unwrap_or(0));
+    written
 }

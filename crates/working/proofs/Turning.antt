@@ -8,17 +8,17 @@
 --     turning_end         no turn is left
 --     for_stopped         QF, whose first operand is refused
 --     for_turned          QF, from its turns
+use Rattle.std.specs.Prelude.{Some, Result, Ok, Err}
 use Prim.Native.Nat.{ℕ, suc, ◌+◌, ◌-◌, ◌≤◌, ◌<◌, max}
 use mathlib.Core.Path.{◌≡◌, refl, sym, ◌∙◌, ap, ap₂, subst}
 use mathlib.Core.List.{List, [], ◌∷◌, ◌++◌}
 use native.Mathlib.Omega.{arith}
 use native.Mathlib.Numerals.{add-one}
 use native.Mathlib.Nat.{add-zero}
-use denote.Enum.Declared.{tag_of}
-use types.Run.{OneOf, miss}
 use lib.IntN.{ℤ, pos}
 use lib.ListN.{length, take, get_or}
 use lib.Seq.{drop-cons}
+use Rattle.codes.specs.declared.refusals.Stop.{Stop}
 use Rattle.laws.specs.Rows.{row}
 use Rattle.laws.proofs.Rows.{length_row}
 use Rattle.laws.specs.Attempt.{gives, Work, work}
@@ -30,16 +30,12 @@ use Rattle.meaning.specs.Counted.{Standing, stand, evaluate, loop}
 use Rattle.query_walks.specs.Parse.{Parsed, trees, Past}
 use Rattle.query_walks.proofs.Parsing.{pair_gives}
 use Rattle.stack.specs.declared.Stood.{Stood}
-use Rattle.stack.specs.declared.Stood.TheVariants as Stood
 use Rattle.stack.specs.declared.Pair.{Pair}
-use Rattle.stack.specs.declared.Pair.TheVariants as Pair
-use Rattle.stack.specs.Stack.{stood, paired, EndsPair, besiding, Leaves}
+use Rattle.stack.specs.Stack.{stood, paired, EndsPair, Leaves}
 use Rattle.stack.specs.Moves as Moves
 use Rattle.stack.proofs.Leaving.{row_append}
 use Rattle.lent.proofs.Moves.{row_kept}
-use Rattle.stack.specs.contracts.Stood.{the_type}
 use Rattle.working_parts.specs.declared.Scope.{Scope}
-use Rattle.working_parts.specs.declared.Binding.TheVariants.{Variable}
 use Rattle.working_parts.specs.Scopes.{Scoped, HoldsEnv, scoping, binding}
 use Rattle.working.specs.Evaluating.{Works, turn, Turns}
 use Rattle.working_parts.proofs.Scoping.{scoped_more, scoped_bound, holds_kept, holds_bound}
@@ -88,14 +84,14 @@ module _ (w : World) (t : Parsed) (v top room n count : ℕ) (s : Scope) (before
       (i got most : ℕ) (cells : List ℤ) (inv : Turning i got most cells) (sc : Scoped top s) (few : v < 8)
       (le : room ≤ length before) (lt : i < n)
     where
-      pub turning_scoped : Scoped (top + n + got) (scoping s (Variable v) (top + i) 1)
+      pub turning_scoped : Scoped (top + n + got) (scoping s (Some v) (top + i) 1)
       turning_scoped =
-          scoped_bound (top + n + got) (top + i) 1 s (Variable v) few (omega arith)
+          scoped_bound (top + n + got) (top + i) 1 s (Some v) few (omega arith)
           (scoped_more top (top + n + got) s (omega arith) sc)
 
       module _
-          (after : List ℤ) (m : Stood)
-          (g : Works w t (top + n + got) room (scoping s (Variable v) (top + i) 1) cells after m)
+          (after : List ℤ) (m : Result Stood Stop)
+          (g : Works w t (top + n + got) room (scoping s (Some v) (top + i) 1) cells after m)
         where
           -- the turn, and those behind it
           turned :
@@ -113,7 +109,7 @@ module _ (w : World) (t : Parsed) (v top room n count : ℕ) (s : Scope) (before
               let one : row cells (top + i) 1 ≡ a ∷ [] =
               row_kept before cells (top + n) (top + i) 1 (omega arith) inv.kept
               ∙ row_cons before (top + i) 1 0 (pos 0) (omega (arith, inv.above, inv.within)) refl in
-              let holds = holds_bound top (top + i) 1 s (Variable v) e cells (a ∷ []) sc few one
+              let holds = holds_bound top (top + i) 1 s (Some v) e cells (a ∷ []) sc few one
               (holds_kept top s e before cells sc low h) in
               let size : length results ≡ got = length_row cells (top + n) got
               (omega (arith, inv.above, inv.within, inv.long)) in
@@ -129,11 +125,11 @@ module _ (w : World) (t : Parsed) (v top room n count : ℕ) (s : Scope) (before
               ∙ inv.means e h x p
 
       on :
-          (after : List ℤ) (l k next : ℕ) → length after ≡ length cells →
-          Works w t (top + n + got) room (scoping s (Variable v) (top + i) 1) cells after (Stood.Items l k next) →
-          Turning (i + 1) (got + l) (max most (n + got + k)) after
+          (after : List ℤ) (m : Stood) → length after ≡ length cells →
+          Works w t (top + n + got) room (scoping s (Some v) (top + i) 1) cells after (Ok m) →
+          Turning (i + 1) (got + m.length) (max most (n + got + m.count)) after
       unfolding stood stand work
-      on after l k next q g =
+      on after m q g =
           let f = g.fit in
           record {
             passed = omega arith;
@@ -145,62 +141,49 @@ module _ (w : World) (t : Parsed) (v top room n count : ℕ) (s : Scope) (before
                 let results = row cells (top + n) got in
                 let size : length results ≡ got = length_row cells (top + n) got
                 (omega (arith, inv.above, inv.within, inv.long)) in
-                let both : row after (top + n) (got + l) ≡ results ++ row after (top + n + got) l =
-                row_append after (top + n) got l
-                ∙ ap (◌++ row after (top + n + got) l)
+                let both : row after (top + n) (got + m.length) ≡ results ++ row after (top + n + got) m.length =
+                row_append after (top + n) got m.length
+                ∙ ap (◌++ row after (top + n + got) m.length)
                 (row_kept cells after (top + n + got) (top + n) got (omega arith) g.kept) in
                 ap₂ (λ (c : ℕ) (r : List ℤ). loop (turn w e v x.0) (room - top) n c r
                 (row before (top + (i + 1)) (n - (i + 1))))
-                (ap (λ (z : ℕ). max most (n + z + k)) (sym size)) both
-                ∙ turned after (Stood.Items l k next) g e h x p;
+                (ap (λ (z : ℕ). max most (n + z + m.count)) (sym size)) both
+                ∙ turned after (Ok m) g e h x p;
           }
 
-      pub turning_on :
-          (after : List ℤ) (m : Stood) (seen : Scope) (l k next more : ℕ) → m ≡ Stood.Items l k next →
-          seen ≡ scoping s (Variable v) (top + i) 1 → more ≡ max most (n + got + k) → length after ≡ length cells →
-          Works w t (top + n + got) room seen cells after m → Turning (i + 1) (got + l) more after
-      turning_on after m seen l k next more c d e q g =
-          subst (λ (k : ℕ). Turning (i + 1) (got + l) k after) (sym e)
-          (on after l k next q
-          (subst (λ (s : Scope). Works w t (top + n + got) room s cells after (Stood.Items l k next)) d
-          (subst (λ (m : Stood). Works w t (top + n + got) room seen cells after m) c g)))
+      module _ (after : List ℤ) (seen : Scope) (d : seen ≡ scoping s (Some v) (top + i) 1) where
+        pub turning_on :
+            (m : Stood) (more : ℕ) → more ≡ max most (n + got + m.count) → length after ≡ length cells →
+            Works w t (top + n + got) room seen cells after (Ok m) → Turning (i + 1) (got + m.length) more after
+        turning_on m more e q g =
+            subst (λ (k : ℕ). Turning (i + 1) (got + m.length) k after) (sym e)
+            (on after m q (subst (λ (s : Scope). Works w t (top + n + got) room s cells after (Ok m)) d g))
 
-      stopped :
-          (after : List ℤ) (next : ℕ) (m : Stood) → OneOf (1 ∷ 2 ∷ []) (tag_of the_type m) →
-          Works w t (top + n + got) room (scoping s (Variable v) (top + i) 1) cells after m →
-          Turns w t v top room n count next s before after (besiding 0 0 m)
-      unfolding stood work paired besiding Moves.kept
-      stopped after next (Stood.Items l k m) h g = absurd (miss (1 ∷ 2 ∷ []) 0 tt h)
-      stopped after next (Stood.Full p) h g =
-          record {
-            kept =
-                take_lower top (top + n + got) cells after (omega arith) g.kept
-                ∙ take_lower top (top + n) before cells (omega arith) inv.kept;
-            fit = tt;
-            ends = tt;
-            means = turned after (Stood.Full p) g;
-          }
-      stopped after next (Stood.Failed p) h g =
-          record {
-            kept =
-                take_lower top (top + n + got) cells after (omega arith) g.kept
-                ∙ take_lower top (top + n) before cells (omega arith) inv.kept;
-            fit = tt;
-            ends = tt;
-            means = turned after (Stood.Failed p) g;
-          }
-
-      pub turning_stopped :
-          (after : List ℤ) (next : ℕ) (m : Stood) (seen : Scope) (p : Pair) → OneOf (1 ∷ 2 ∷ []) (tag_of the_type m) →
-          seen ≡ scoping s (Variable v) (top + i) 1 → p ≡ besiding 0 0 m →
-          Works w t (top + n + got) room seen cells after m → Turns w t v top room n count next s before after p
-      turning_stopped after next m seen p h d e g =
-          subst (λ (p : Pair). Turns w t v top room n count next s before after p) (sym e)
-          (stopped after next m h (subst (λ (s : Scope). Works w t (top + n + got) room s cells after m) d g))
+        pub turning_stopped :
+            (m : Stop) (next : ℕ) → Works w t (top + n + got) room seen cells after (Err m) →
+            Turns w t v top room n count next s before after (Err m)
+        unfolding Moves.kept paired stood work
+        turning_stopped m next g =
+            let h = subst (λ (s : Scope). Works w t (top + n + got) room s cells after (Err m)) d g in
+            record {
+              kept =
+                  take_lower top (top + n + got) cells after (omega arith) h.kept
+                  ∙ take_lower top (top + n) before cells (omega arith) inv.kept;
+              fit = tt;
+              ends = tt;
+              means = λ e k x p. stays m _ ∙ turned after (Err m) h e k x p;
+            }
+          where
+            stays :
+                (m : Stop) (f : Standing → Work Standing) →
+                Moves.kept (paired after top (Err m)) ≡ work (stood after (top + n + got) (Err m)) f
+            stays (Stop.Full p) f = refl
+            stays (Stop.Failed p) f = refl
 
   pub turning_end :
       (next i got most : ℕ) (cells : List ℤ) → i ≡ n → Turning i got most cells →
-      Turns w t v top room n count next s before cells (Pair.Items n got most next)
+      Turns w t v top room n count next s before cells
+      (Ok (record { first = n; second = got; count = most; next = next }))
   unfolding Moves.kept paired loop row work
   turning_end next i got most cells d inv =
       record {
@@ -216,34 +199,33 @@ module _ (w : World) (t : Parsed) (v top room n count : ℕ) (s : Scope) (before
 
 module _ (w : World) (rd : ℕ → Parsed) (place at v top room : ℕ) (s : Scope) (before mid : List ℤ) where
   pub for_stopped :
-      (m : Stood) → OneOf (1 ∷ 2 ∷ []) (tag_of the_type m) → Works w (rd at) top room s before mid m →
-      Works w (trees rd place at (Query.for v)) top room s before mid m
+      (m : Stop) → Works w (rd at) top room s before mid (Err m) →
+      Works w (trees rd place at (Query.for v)) top room s before mid (Err m)
   unfolding trees evaluate
-  for_stopped m h g =
-      works_stopped w _ (rd at) top room s before mid m h g
+  for_stopped m g =
+      works_stopped w _ (rd at) top room s before mid m g
       (λ z c.
       let (x, y, p, q, d) = pair_gives (QF place v) (rd at) rd z c in
       (x, p, λ e. (_, ap (λ (z : Query × ℕ). evaluate w (room - top) e z.0) d)))
 
   pub for_turned :
-      (l k n end : ℕ) (last after : List ℤ) (m : Stood) (p : Pair) (r : Stood) → m ≡ Stood.Items l k n → Scoped top s →
-      room ≤ length mid → Works w (rd at) top room s before mid m → Past (rd n) end →
-      Turns w (rd n) v top room l k end s mid last p →
+      (a : Stood) (end : ℕ) (last after : List ℤ) (p : Result Pair Stop) (r : Result Stood Stop) → Scoped top s →
+      room ≤ length mid → Works w (rd at) top room s before mid (Ok a) → Past (rd a.next) end →
+      Turns w (rd a.next) v top room a.length a.count end s mid last p →
       Leaves top room (Moves.kept (paired last top p)) (EndsPair p) last after r →
       Works w (trees rd place at (Query.for v)) top room s before after r
   unfolding trees evaluate stood stand work
-  for_turned l k n end last after m p r q sc le worked past u b =
-      let g : Works w (rd at) top room s before mid (Stood.Items l k n) =
-      subst (λ (m : Stood). Works w (rd at) top room s before mid m) q worked in
+  for_turned a end last after p r sc le g past u b =
       works_leaves w _ top room s before after last r (Moves.kept (paired last top p)) (EndsPair p) b
       (u.kept ∙ g.kept)
       (λ e h z c.
       let (x, y, i, j, d) = pair_gives (QF place v) (rd at) rd z c in
       let first = g.means e h x i in
-      let here : rd n ≡ gives y = ap rd first.ends ∙ j in
-      let size : length (row mid top l) ≡ l = length_row mid top l (omega (arith, g.fit.0, g.fit.1)) in (
+      let here : rd a.next ≡ gives y = ap rd first.ends ∙ j in
+      let size : length (row mid top a.length) ≡ a.length =
+      length_row mid top a.length (omega (arith, g.fit.0, g.fit.1)) in (
         u.means e (holds_kept top s e before mid sc g.kept h) y here
-            ∙ ap (λ (i : ℕ). loop (turn w e v y.0) (room - top) i k [] (row mid top l)) (sym size)
+            ∙ ap (λ (i : ℕ). loop (turn w e v y.0) (room - top) i a.count [] (row mid top a.length)) (sym size)
             ∙ ap
             (λ (o : Work Standing). work o
             (λ s. loop (turn w e v y.0) (room - top) (length s.items) s.count [] s.items))

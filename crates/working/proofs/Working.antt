@@ -1,79 +1,63 @@
 -- What working out a record promises, from what its operands promise.
 --     works_leaves      what is left behind operands, where it is what the record's clause says
 --     works_as          the same tree, written otherwise
+--     tree_is           the tree at a record that was read, by its kind
+--     ranged_is         .. its fields are in their ranges
 --     works_leaf        a record without operands
 --     works_nothing     no tree: nothing is promised of it
 --     works_one         a record of one operand
 --     works_two         a record of two operands, one behind the other
 --     works_stopped     a record whose first operand is refused
---     fit_wider, fit_pair_wider    what fits the room fits the lent cells
 --     leaves_joined     QS: both operands' items as those of one
 --     leaves_none       QE: no item
 --     number_is, values_is, step_is, join_is, keep_is, apply_is      the clauses of `evaluate`
+use Rattle.std.specs.Prelude.{Option, Some, None, Result, Ok, Err}
 use Prim.Native.Nat.{ℕ, ◌+◌, ◌-◌, ◌≤◌, max}
 use mathlib.Core.Path.{◌≡◌, refl, sym, ◌∙◌, ap, subst}
-use mathlib.Core.List.{List, [], ◌∷◌}
+use mathlib.Core.List.{List, []}
 use native.Mathlib.Omega.{arith}
-use denote.Enum.Declared.{tag_of}
-use types.Run.{OneOf, miss}
 use lib.IntN.{ℤ}
 use lib.ListN.{length, take}
 use Rattle.codes.specs.declared.Axis.{Axis}
 use Rattle.codes.specs.declared.Function.{Function}
 use Rattle.codes.specs.declared.Test.{Test}
+use Rattle.codes.specs.declared.refusals.Stop.{Stop}
 use Rattle.laws.specs.Rows.{row}
 use Rattle.laws.specs.Attempt.{fails, gives, Work, full, failed, done, work}
 use Rattle.meaning.specs.World.{World}
+use Rattle.meaning.specs.Query as Query
 use Rattle.meaning.specs.Query.{Query, QS, QT, QO, QC, QD, QX}
 use Rattle.meaning.specs.Meaning.{Env}
 use Rattle.meaning.specs.Counted.{Standing, stand, evaluate}
 use Rattle.laws.proofs.Outcomes.{fails_gives, gives_same}
-use Rattle.query_walks.specs.Parse.{Parsed, lone, pair}
+use Rattle.cells.specs.Bytes.{word}
+use Rattle.query_records.specs.declared.Decoded.{Decoded}
+use Rattle.query_records.specs.declared.Record.{Record}
+use Rattle.query_records.specs.Decoded.{record_of, Means}
+use Rattle.query_records.specs.Fields.{Ranged}
+use Rattle.query_records.proofs.Callers.{found_sound}
+use Rattle.query_walks.proofs.Callers.{found_parses}
+use Rattle.query_walks.specs.Parse.{Parsed, lone, pair, parse, trees}
 use Rattle.query_walks.proofs.Parsing.{lone_gives, pair_gives}
 use Rattle.stack.specs.declared.Stood.{Stood}
-use Rattle.stack.specs.declared.Stood.TheVariants as Stood
 use Rattle.stack.specs.declared.Pair.{Pair}
-use Rattle.stack.specs.declared.Pair.TheVariants as Pair
-use Rattle.stack.specs.Stack.{Paired, stood, paired, Fit, FitPair, Ends, EndsPair, At, joining, Leaves}
+use Rattle.stack.specs.Stack.{Paired, stood, paired, FitPair, Ends, EndsPair, At, joining, Leaves}
 use Rattle.stack.specs.Moves.{raised, pairing, joined, kept, counted}
 use Rattle.stack_records.specs.Arms.{applied, valued, stepped}
 use Rattle.stack.proofs.Leaving.{stood_joined}
-use Rattle.stack.specs.contracts.Stood.{the_type}
 use Rattle.working_parts.specs.declared.Scope.{Scope}
-use Rattle.working_parts.specs.declared.Binding.{Binding}
-use Rattle.working_parts.specs.declared.Binding.TheVariants.{Nothing, Variable}
 use Rattle.working_parts.specs.Scopes.{HoldsEnv, binding}
 use Rattle.working.specs.Evaluating.{Works, behind, both, Pairs}
 
-pub fit_wider : (top room wider : ℕ) (r : Stood) → room ≤ wider → Fit top room r → Fit top wider r
-fit_wider top room wider (Stood.Items l k n) h f = (f.0, omega arith)
-fit_wider top room wider (Stood.Full p) h f = tt
-fit_wider top room wider (Stood.Failed p) h f = tt
-
-pub fit_pair_wider : (top room wider : ℕ) (p : Pair) → room ≤ wider → FitPair top room p → FitPair top wider p
-fit_pair_wider top room wider (Pair.Items l m k n) h f = (f.0, omega arith)
-fit_pair_wider top room wider (Pair.Full p) h f = tt
-fit_pair_wider top room wider (Pair.Failed p) h f = tt
-
 pub leaves_joined :
-    (top room : ℕ) (cells : List ℤ) (p : Pair) → FitPair top room p →
-    Leaves top room (joined (paired cells top p)) (EndsPair p) cells cells (joining p)
-unfolding joining
-leaves_joined top room cells p f =
-    record { kept = refl; fit = fits p f; stands = stood_joined cells top p; ends = λ e h. ending p e h }
-  where
-    fits : (p : Pair) → FitPair top room p → Fit top room (joining p)
-    fits (Pair.Items l m k n) f = f
-    fits (Pair.Full p) f = tt
-    fits (Pair.Failed p) f = tt
-
-    ending : (p : Pair) (e : ℕ) → EndsPair p e → Ends (joining p) e
-    ending (Pair.Items l m k n) e h = h
-    ending (Pair.Full p) e h = tt
-    ending (Pair.Failed p) e h = tt
+    (top room : ℕ) (cells : List ℤ) (d : Pair) → FitPair top room (Ok d) →
+    Leaves top room (joined (paired cells top (Ok d))) (EndsPair (Ok d)) cells cells (Ok (joining d))
+leaves_joined top room cells d f =
+    record { kept = refl; fit = f; stands = stood_joined cells top d; ends = λ e h. h }
 
 pub leaves_none :
-    (top room n : ℕ) (cells : List ℤ) → top ≤ room → Leaves top room (stand [] 0) (At n) cells cells (Stood.Items 0 0 n)
+    (top room n : ℕ) (cells : List ℤ) → top ≤ room →
+    Leaves top room (stand [] 0) (At n) cells cells (Ok (record { length = 0; count = 0; next = n }))
 unfolding stood row
 leaves_none top room n cells h =
     record { kept = refl; fit = (omega arith, omega arith); stands = refl; ends = λ e d. d }
@@ -81,7 +65,7 @@ leaves_none top room n cells h =
 module _ (w : World) (t : Parsed) (top room : ℕ) (s : Scope) (before after : List ℤ) where
   -- what is left behind operands, where it is what the record's clause says
   pub works_leaves :
-      (mid : List ℤ) (r : Stood) (o : Work Standing) (E : ℕ → Type 0) → Leaves top room o E mid after r →
+      (mid : List ℤ) (r : Result Stood Stop) (o : Work Standing) (E : ℕ → Type 0) → Leaves top room o E mid after r →
       take top mid ≡ take top before →
       ((e : Env) → HoldsEnv before s e → (x : Query × ℕ) → t ≡ gives x →
       (o ≡ evaluate w (room - top) e x.0) × E x.1) →
@@ -96,7 +80,8 @@ module _ (w : World) (t : Parsed) (top room : ℕ) (s : Scope) (before after : L
       }
 
   pub works_leaf :
-      (r : Stood) (q : Query) (n : ℕ) (o : Work Standing) → t ≡ gives (q, n) → Leaves top room o (At n) before after r →
+      (r : Result Stood Stop) (q : Query) (n : ℕ) (o : Work Standing) → t ≡ gives (q, n) → Leaves top room o
+      (At n) before after r →
       ((e : Env) → HoldsEnv before s e → o ≡ evaluate w (room - top) e q) → Works w t top room s before after r
   works_leaf r q n o p l h =
       works_leaves before r o (At n) l refl
@@ -105,7 +90,8 @@ module _ (w : World) (t : Parsed) (top room : ℕ) (s : Scope) (before after : L
       (h e g ∙ ap (λ (y : Query × ℕ). evaluate w (room - top) e y.0) d, ap (λ (y : Query × ℕ). y.1) d))
 
   pub works_one :
-      (mid : List ℤ) (m r : Stood) (q : Query → Query) (a : Parsed) (f : Work Standing → Work Standing) → t ≡ lone q a →
+      (mid : List ℤ) (m r : Result Stood Stop) (q : Query → Query) (a : Parsed) (f : Work Standing →
+      Work Standing) → t ≡ lone q a →
       ((e : Env) (p : Query) → f (evaluate w (room - top) e p) ≡ evaluate w (room - top) e (q p)) →
       Works w a top room s before mid m → Leaves top room (f (stood mid top m)) (Ends m) mid after r →
       Works w t top room s before after r
@@ -119,7 +105,8 @@ module _ (w : World) (t : Parsed) (top room : ℕ) (s : Scope) (before after : L
       ))
 
   pub works_two :
-      (mid : List ℤ) (m : Pair) (r : Stood) (q : Query → Query → Query) (rd : ℕ → Parsed) (at : ℕ) (b : Binding)
+      (mid : List ℤ) (m : Result Pair Stop) (r : Result Stood Stop) (q : Query → Query → Query) (rd : ℕ → Parsed)
+      (at : ℕ) (b : Option ℕ)
       (f : Work Paired → Work Standing) → t ≡ pair q (rd at) rd →
       ((e : Env) (p p' : Query) → f (both w (room - top) e b p p') ≡ evaluate w (room - top) e (q p p')) →
       Pairs w rd at b top room s before mid m → Leaves top room (f (paired mid top m)) (EndsPair m) mid after r →
@@ -134,44 +121,54 @@ module _ (w : World) (t : Parsed) (top room : ℕ) (s : Scope) (before after : L
       ))
 
 pub works_as :
-    (w : World) (t u : Parsed) (top room : ℕ) (s : Scope) (before after : List ℤ) (r : Stood) → t ≡ u →
+    (w : World) (t u : Parsed) (top room : ℕ) (s : Scope) (before after : List ℤ) (r : Result Stood Stop) →
+    t ≡ u →
     Works w u top room s before after r → Works w t top room s before after r
 works_as w t u top room s before after r e g = subst (λ (t : Parsed). Works w t top room s before after r) (sym e) g
 
 -- no tree: nothing is promised of it
 pub works_nothing :
     (w : World) (t : Parsed) (top room : ℕ) (s : Scope) (cells : List ℤ) (p : ℕ) → t ≡ fails →
-    Works w t top room s cells cells (Stood.Failed p)
+    Works w t top room s cells cells (Err (Stop.Failed p))
 works_nothing w t top room s cells p h =
     record { kept = refl; fit = tt; means = λ e g x c. absurd (fails_gives x (sym h ∙ c)) }
 
 -- the first operand is refused, and so is the record
 pub works_stopped :
-    (w : World) (t a : Parsed) (top room : ℕ) (s : Scope) (before after : List ℤ) (m : Stood) →
-    OneOf (1 ∷ 2 ∷ []) (tag_of the_type m) → Works w a top room s before after m →
+    (w : World) (t a : Parsed) (top room : ℕ) (s : Scope) (before after : List ℤ) (m : Stop) →
+    Works w a top room s before after (Err m) →
     ((x : Query × ℕ) → t ≡ gives x → (y : Query × ℕ) × (a ≡ gives y) × ((e : Env) →
     (g : Standing → Work Standing) × (work (evaluate w (room - top) e y.0) g ≡ evaluate w (room - top) e x.0))) →
-    Works w t top room s before after m
+    Works w t top room s before after (Err m)
 unfolding stood work
-works_stopped w t a top room s before after (Stood.Items l k n) h g q = absurd (miss (1 ∷ 2 ∷ []) 0 tt h)
-works_stopped w t a top room s before after (Stood.Full p) h g q =
+works_stopped w t a top room s before after m g q =
     record {
       kept = g.kept;
       fit = tt;
       means = λ e k x c.
           let (y, u, d) = q x c in
           let (f, i) = d e in
-          record { stands = ap (λ (o : Work Standing). work o f) (g.means e k y u).stands ∙ i; ends = tt };
+          record { stands = stays m f ∙ ap (λ (o : Work Standing). work o f) (g.means e k y u).stands ∙ i; ends = tt };
     }
-works_stopped w t a top room s before after (Stood.Failed p) h g q =
-    record {
-      kept = g.kept;
-      fit = tt;
-      means = λ e k x c.
-          let (y, u, d) = q x c in
-          let (f, i) = d e in
-          record { stands = ap (λ (o : Work Standing). work o f) (g.means e k y u).stands ∙ i; ends = tt };
-    }
+  where
+    stays : (m : Stop) (f : Standing → Work Standing) → stood after top (Err m) ≡ work (stood after top (Err m)) f
+    stays (Stop.Full p) f = refl
+    stays (Stop.Failed p) f = refl
+
+-- What is read at an offset
+
+module _
+    (bs : List ℕ) (at : ℕ) (r : Option Decoded) (m : Means r (Query.record_of bs at (word bs at 2))) (f : Decoded)
+    (h : r ≡ Some f) (k : Record) (e : f.kind ≡ k)
+  where
+    pub tree_is :
+        (d : ℕ) → (d ≡ 0 → ⊥) → parse d bs at ≡ trees (parse (d - 1) bs) at f.next (record_of k)
+    tree_is d z =
+        found_parses bs at r m f h d z
+        ∙ ap (λ (k : Record). trees (parse (d - 1) bs) at f.next (record_of k)) e
+
+    pub ranged_is : Ranged (record_of k)
+    ranged_is = subst (λ (k : Record). Ranged (record_of k)) e (found_sound bs at r m f h).ranged
 
 -- The clauses of `evaluate`
 
@@ -208,15 +205,15 @@ module _ (w : World) (room at : ℕ) (e : Env) where
       go (failed p) = refl
       go (done t) = refl
 
-  pub join_is : (p q : Query) → joined (both w room e Nothing p q) ≡ evaluate w room e (QS at p q)
+  pub join_is : (p q : Query) → joined (both w room e None p q) ≡ evaluate w room e (QS at p q)
   unfolding evaluate joined both behind binding
   join_is p q = after_both _ (evaluate w room e p) _
 
-  pub keep_is : (v : ℕ) (p q : Query) → kept (both w room e (Variable v) p q) ≡ evaluate w room e (QT at v p q)
+  pub keep_is : (v : ℕ) (p q : Query) → kept (both w room e (Some v) p q) ≡ evaluate w room e (QT at v p q)
   unfolding evaluate kept both behind binding
   keep_is v p q = after_both _ (evaluate w room e p) _
 
   pub apply_is :
-      (f : Function) (p q : Query) → applied w at f (both w room e Nothing p q) ≡ evaluate w room e (QO at f p q)
+      (f : Function) (p q : Query) → applied w at f (both w room e None p q) ≡ evaluate w room e (QO at f p q)
   unfolding evaluate applied both behind binding
   apply_is f p q = after_both _ (evaluate w room e p) _

@@ -5,13 +5,13 @@
 --     IsPair o e top cells p     the same of two operands
 --     Works w t top room s before after r    nothing below top has changed, and what r says fits the room; for every
 --                                store that scope s holds, r is the evaluation of the tree that t gives
---     Branches b w t ..          the same of a tree that is worked out where b is true; else nothing changes
 --     Pairs w rd at b top room s before after p    the same of two trees that rd gives one behind the other from `at`
 --                                on; the second sees the items of the first in the variable of binding b
 --     turn w e v q left x        what a turn of a `for` works out, for item x of its variable v
 --     Turns w t v top room n count next s before after p    the same of the turns of a `for`: its body is the tree that
 --                                t gives, and the n items from top on are those of its variable v, counted `count`
-use Rattle.std.specs.Prelude.{ℕ, ◌-◌, ◌≡◌, Bool, true, false, List, [], ◌∷◌, ℤ, length, take}
+use Rattle.std.specs.Prelude.{ℕ, ◌-◌, ◌≡◌, List, [], ◌∷◌, ℤ, length, take, Option, Result}
+use Rattle.codes.specs.declared.refusals.Stop.{Stop}
 use Rattle.laws.specs.Rows.{row}
 use Rattle.laws.specs.Attempt.{gives, Work}
 use Rattle.meaning.specs.World.{World}
@@ -25,39 +25,35 @@ use Rattle.stack.specs.Stack.{Paired, stood, paired, Fit, FitPair, Ends, EndsPai
 use Rattle.stack.specs.Moves.{pairing}
 use Rattle.stack.specs.Moves as Moves
 use Rattle.working_parts.specs.declared.Scope.{Scope}
-use Rattle.working_parts.specs.declared.Binding.{Binding}
 use Rattle.working_parts.specs.Scopes.{HoldsEnv, binding}
 
-pub record Is (o : Work Standing) (e top : ℕ) (cells : List ℤ) (r : Stood) : Type 0 where
+pub record Is (o : Work Standing) (e top : ℕ) (cells : List ℤ) (r : Result Stood Stop) : Type 0 where
   pub stands : stood cells top r ≡ o
   pub ends : Ends r e
 
-pub record IsPair (o : Work Paired) (e top : ℕ) (cells : List ℤ) (p : Pair) : Type 0 where
+pub record IsPair (o : Work Paired) (e top : ℕ) (cells : List ℤ) (p : Result Pair Stop) : Type 0 where
   pub stands : paired cells top p ≡ o
   pub ends : EndsPair p e
 
-pub record Works (w : World) (t : Parsed) (top room : ℕ) (s : Scope) (before after : List ℤ) (r : Stood) : Type 0 where
+pub record Works
+    (w : World) (t : Parsed) (top room : ℕ) (s : Scope) (before after : List ℤ) (r : Result Stood Stop)
+    : Type 0 where
   pub kept : take top after ≡ take top before
   pub fit : Fit top room r
   pub means :
       (e : Env) → HoldsEnv before s e → (x : Query × ℕ) → t ≡ gives x →
       Is (evaluate w (room - top) e x.0) x.1 top after r
 
-pub record Branches
-    (chosen : Bool) (w : World) (t : Parsed) (top room : ℕ) (s : Scope) (before after : List ℤ) (r : Stood)
-    : Type 0 where
-  pub worked : chosen ≡ true → Works w t top room s before after r
-  pub passed : chosen ≡ false → after ≡ before
-
 -- the second of two operands, in the room that the items of the first leave
-unfoldable pub behind : World → ℕ → Env → Binding → Query → Standing → Work Standing
+unfoldable pub behind : World → ℕ → Env → Option ℕ → Query → Standing → Work Standing
 behind w room e b q s = evaluate w (room - length s.items) (binding b s.items e) q
 
-unfoldable pub both : World → ℕ → Env → Binding → Query → Query → Work Paired
+unfoldable pub both : World → ℕ → Env → Option ℕ → Query → Query → Work Paired
 both w room e b p q = pairing (evaluate w room e p) (behind w room e b q)
 
 pub record Pairs
-    (w : World) (rd : ℕ → Parsed) (at : ℕ) (b : Binding) (top room : ℕ) (s : Scope) (before after : List ℤ) (p : Pair)
+    (w : World) (rd : ℕ → Parsed) (at : ℕ) (b : Option ℕ) (top room : ℕ) (s : Scope) (before after : List ℤ)
+    (p : Result Pair Stop)
     : Type 0 where
   pub kept : take top after ≡ take top before
   pub fit : FitPair top room p
@@ -70,7 +66,8 @@ abbrev pub turn : World → Env → ℕ → Query → ℕ → ℤ → Work Stand
 turn w e v q left x = evaluate w left (bind v (x ∷ []) e) q
 
 pub record Turns
-    (w : World) (t : Parsed) (v top room n count next : ℕ) (s : Scope) (before after : List ℤ) (p : Pair)
+    (w : World) (t : Parsed) (v top room n count next : ℕ) (s : Scope) (before after : List ℤ)
+    (p : Result Pair Stop)
     : Type 0 where
   pub kept : take top after ≡ take top before
   pub fit : FitPair top room p

@@ -4,6 +4,7 @@
 --     holds_kept        cells above top say nothing of a scope
 --     holds_bound       one more binding, in scope and store
 --     scoped_nothing, holds_nothing    at first no variable holds an item
+use Rattle.std.specs.Prelude.{Option, Some, None}
 use Prim.Native.Nat.{ℕ, ◌+◌, ◌≤◌, ◌<◌}
 use mathlib.Core.Path.{◌≡◌, refl, ◌∙◌}
 use mathlib.Core.List.{List, []}
@@ -17,8 +18,6 @@ use Rattle.laws.specs.Rows.{row}
 use Rattle.meaning.specs.Meaning.{Env, bind}
 use Rattle.lent.proofs.Moves.{row_kept}
 use Rattle.working_parts.specs.declared.Scope.{Scope}
-use Rattle.working_parts.specs.declared.Binding.{Binding}
-use Rattle.working_parts.specs.declared.Binding.TheVariants.{Nothing, Variable}
 use Rattle.working_parts.specs.Scopes.{Scoped, held, HoldsEnv, Bindable, scoping, binding, unbound}
 
 pub scoped_more : (top higher : ℕ) (s : Scope) → top ≤ higher → Scoped top s → Scoped higher s
@@ -26,10 +25,10 @@ scoped_more top higher s h g =
     record { starts = g.starts; lengths = g.lengths; below = λ v l. omega (arith, g.below v l) }
 
 pub scoped_bound :
-    (top a l : ℕ) (s : Scope) (b : Binding) → Bindable b → a + l ≤ top → Scoped top s → Scoped top (scoping s b a l)
+    (top a l : ℕ) (s : Scope) (b : Option ℕ) → Bindable b → a + l ≤ top → Scoped top s → Scoped top (scoping s b a l)
 unfolding scoping
-scoped_bound top a l s Nothing k h g = g
-scoped_bound top a l s (Variable v) k h g =
+scoped_bound top a l s None k h g = g
+scoped_bound top a l s (Some v) k h g =
     record {
       starts = length-set s.starts v a ∙ g.starts;
       lengths = length-set s.lengths v l ∙ g.lengths;
@@ -50,13 +49,13 @@ unfolding held
 holds_kept top s e before after g k h v l = row_kept before after top _ _ (g.below v l) k ∙ h v l
 
 pub holds_bound :
-    (top a l : ℕ) (s : Scope) (b : Binding) (e : Env) (cells xs : List ℤ) → Scoped top s → Bindable b →
+    (top a l : ℕ) (s : Scope) (b : Option ℕ) (e : Env) (cells xs : List ℤ) → Scoped top s → Bindable b →
     row cells a l ≡ xs → HoldsEnv cells s e → HoldsEnv cells (scoping s b a l) (binding b xs e)
 unfolding scoping binding held bind
-holds_bound top a l s Nothing e cells xs g k r h u f = h u f
-holds_bound top a l s (Variable v) e cells xs g k r h u f = go (ℕ_discrete u v)
+holds_bound top a l s None e cells xs g k r h u f = h u f
+holds_bound top a l s (Some v) e cells xs g k r h u f = go (ℕ_discrete u v)
   where
-    go : Dec (u ≡ v) → held cells (scoping s (Variable v) a l) u ≡ bind v xs e u
+    go : Dec (u ≡ v) → held cells (scoping s (Some v) a l) u ≡ bind v xs e u
     go (yes d) =
         let first = get_or-set_same s.starts v a 0 (omega (arith, g.starts)) in
         let second = get_or-set_same s.lengths v l 0 (omega (arith, g.lengths)) in

@@ -6,12 +6,10 @@
 --     scoping s b a l      scope s, with the l items from a on in the binding's variable
 --     binding b xs e       store e, with items xs in the binding's variable
 --     unbound              the scope at first: no variable holds an item
-use Rattle.std.specs.Prelude.{ℕ, ◌+◌, ◌≤◌, ◌<◌, ◌≡◌, List, ℤ, length, get_or, set, replicate}
+use Rattle.std.specs.Prelude.{ℕ, ◌+◌, ◌≤◌, ◌<◌, ◌≡◌, List, ℤ, length, get_or, set, replicate, Option, Some, None}
 use Rattle.laws.specs.Rows.{row}
 use Rattle.meaning.specs.Meaning.{Env, bind}
 use Rattle.working_parts.specs.declared.Scope.{Scope}
-use Rattle.working_parts.specs.declared.Binding.{Binding}
-use Rattle.working_parts.specs.declared.Binding.TheVariants.{Nothing, Variable}
 
 pub record Scoped (top : ℕ) (s : Scope) : Type 0 where
   pub starts : length s.starts ≡ 8
@@ -24,17 +22,17 @@ held cells s v = row cells (get_or s.starts v 0) (get_or s.lengths v 0)
 abbrev pub HoldsEnv : List ℤ → Scope → Env → Type 0
 HoldsEnv cells s e = (v : ℕ) → v < 8 → held cells s v ≡ e v
 
-abbrev pub Bindable : Binding → Type 0
-Bindable Nothing = Unit {0}
-Bindable (Variable v) = v < 8
+abbrev pub Bindable : Option ℕ → Type 0
+Bindable None = Unit {0}
+Bindable (Some v) = v < 8
 
-unfoldable pub scoping : Scope → Binding → ℕ → ℕ → Scope
-scoping s Nothing a l = s
-scoping s (Variable v) a l = record { starts = set s.starts v a; lengths = set s.lengths v l }
+unfoldable pub scoping : Scope → Option ℕ → ℕ → ℕ → Scope
+scoping s None a l = s
+scoping s (Some v) a l = record { starts = set s.starts v a; lengths = set s.lengths v l }
 
-unfoldable pub binding : Binding → List ℤ → Env → Env
-binding Nothing xs e = e
-binding (Variable v) xs e = bind v xs e
+unfoldable pub binding : Option ℕ → List ℤ → Env → Env
+binding None xs e = e
+binding (Some v) xs e = bind v xs e
 
 -- no variable is bound at first
 abbrev pub unbound : Scope

@@ -1,8 +1,8 @@
 // What the evaluator does at a record apart from working out its operands: where each variable's items stand, a step
-// with cells of its own, and the answer of an `if`.
+// with cells of its own, and the branch of an `if`.
 #![tactic(auto)]
 
-ghost use Rattle.std.specs.Prelude.{◌≡◌, cond, ◌-◌, ◌<◌};
+ghost use Rattle.std.specs.Prelude.{◌≡◌, cond, ◌-◌, ◌<◌, Some, Ok};
 ghost use Rattle.meaning.specs.Catalogue.{catalogue_of};
 ghost use Rattle.meaning.specs.World.{world_of};
 ghost use Rattle.meaning.specs.Counted.{adding};
@@ -13,6 +13,7 @@ ghost use Rattle.working_parts.specs.Endings.{ending_at};
 ghost use Rattle.working_parts.specs.Scopes.{Scoped, held, Bindable, scoping};
 
 use codes::limits::ROWS;
+use codes::refusals::Stop;
 use codes::{Axis, Test};
 use stack::Stood;
 
@@ -23,33 +24,25 @@ pub struct Scope {
     pub lengths: [usize; 8],
 }
 
-// The variable that the second of two operands sees the items of the first in, if any.
-#[derive(Clone, Copy)]
-pub enum Binding {
-    Nothing,
-    Variable(usize),
-}
-
 // The scope with the items of some cells in a variable: an inner binding hides an outer one.
 pub fn bound(scope: Scope, v: usize, start: usize, n: usize) -> Scope
     requires { v < 8 }
-    ensures { result ≡ scoping scope (Binding.Variable v) start n }
+    ensures { result ≡ scoping scope (Some v) start n }
 {
-    let mut starts = scope.starts;
-    let mut lengths = scope.lengths;
-    starts[v] = start;
-    lengths[v] = n;
-    Scope { starts, lengths }
+    let mut seen = scope;
+    seen.starts[v] = start;
+    seen.lengths[v] = n;
+    seen
 }
 
 // The scope of the second of two operands, where n items of the first stand from `start` on.
-pub fn inner(scope: Scope, binding: Binding, start: usize, n: usize) -> Scope
+pub fn inner(scope: Scope, binding: Option<usize>, start: usize, n: usize) -> Scope
     requires { Bindable binding }
     ensures { result ≡ scoping scope binding start n }
 {
     match binding {
-        Binding::Nothing => scope,
-        Binding::Variable(v) => bound(scope, v, start, n),
+        None => scope,
+        Some(v) => bound(scope, v, start, n),
     }
 }
 
@@ -62,15 +55,13 @@ pub fn variable(
     work: &mut [i64],
     top: usize,
     room: usize,
-) -> Stood
+) -> Result<Stood, Stop>
     requires { (v < 8) × Scoped top scope × Lent top room work.old }
     ensures { Leaves top room (adding (room - top) at 0 (held work.old scope v)) (At next)
         work.old work.new result }
 {
-    let starts = scope.starts;
-    let lengths = scope.lengths;
-    let start = starts[v];
-    let n = lengths[v];
+    let start = scope.starts[v];
+    let n = scope.lengths[v];
     stack::again(start, n, at, next, work, top, room)
 }
 
@@ -85,12 +76,12 @@ pub fn step(
     work: &mut [i64],
     top: usize,
     room: usize,
-) -> Stood
-    requires { Lent top room work.old × Fit top room operand × Known doc.now rows }
+) -> Result<Stood, Stop>
+    requires { Lent top room work.old × Fit top room (Ok operand) × Known doc.now rows }
     ensures { Leaves top room
         (stepped (world_of (catalogue_of doc.now rows)) (room - top) at axis test
-        (stood work.old top operand))
-        (Ends operand) work.old work.new result }
+        (stood work.old top (Ok operand)))
+        (Ends (Ok operand)) work.old work.new result }
 {
     let mut from = [false; ROWS];
     let mut to = [false; ROWS];
@@ -99,27 +90,15 @@ pub fn step(
     )
 }
 
-// The same answer, its operand ending at `next`.
+// The same items, their operand ending at `next`.
 pub fn ending(answer: Stood, next: usize) -> Stood
     ensures { result ≡ ending_at next answer }
 {
-    match answer {
-        Stood::Items {
-            length,
-            count,
-            next: _,
-        } => Stood::Items {
-            length,
-            count,
-            next,
-        },
-        Stood::Full(place) => Stood::Full(place),
-        Stood::Failed(place) => Stood::Failed(place),
-    }
+    Stood { next, ..answer }
 }
 
-// The first of two answers, or the second.
-pub fn selected(first: bool, a: Stood, b: Stood) -> Stood
+// The first of two places, or the second.
+pub fn selected(first: bool, a: usize, b: usize) -> usize
     ensures { result ≡ cond first a b }
 {
     if first { a } else { b }

@@ -3,9 +3,7 @@
 --     keys_of ks        the keys of a numbering, in order
 use Rattle.std.specs.Prelude.{ℕ, List, [], ◌∷◌}
 use Rattle.writing.specs.declared.Columns.{Columns}
-use Rattle.writing.specs.declared.Columns.TheVariants as Columns
 use Rattle.writing.specs.declared.Keys.{Keys}
-use Rattle.writing.specs.declared.Keys.TheVariants as Keys
 
 unfoldable pub columns_of : Columns → List ℕ
 columns_of (Columns.One a) = a ∷ []

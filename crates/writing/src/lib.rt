@@ -159,8 +159,7 @@ pub fn apply(plan: &mut [u8], at: usize, t: usize, f: Function, c: u8, d: u8) ->
     ensures { Pens at (operator_bytes (RF t f c d)) plan.old plan.new result }
 {
     let field = head(plan, at, marks::RF, t);
-    let number = codes::function_number(f);
-    pen::put_three(plan, field, number, c, d)
+    pen::put_three(plan, field, u8::from(f), c, d)
 }
 
 // RF with function 7: adds the value of one cell.
@@ -202,12 +201,7 @@ pub fn step(plan: &mut [u8], at: usize, t: usize, axis: Axis, test: Test) -> usi
     ensures { Pens at (operator_bytes (RX t axis test)) plan.old plan.new result }
 {
     let field = head(plan, at, marks::RX, t);
-    let name = pen::put_pair(
-        plan,
-        field,
-        codes::axis_number(axis),
-        codes::test_number(test),
-    );
+    let name = pen::put_pair(plan, field, u8::from(axis), codes::test_number(test));
     pen::put2(plan, name, codes::test_name(test))
 }
 

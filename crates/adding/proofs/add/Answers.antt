@@ -1,4 +1,3 @@
-use borrow.Author.Rules.{rules}
 use Rattle.adding.proofs.Adding.{wrote_one}
 use Rattle.adding.proofs.add.Goals as goal
 

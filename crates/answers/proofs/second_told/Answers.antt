@@ -1,14 +1,23 @@
 -- `second_told` meets its contract: after 6 the evaluator is not asked, else its answer and cells.
-use Rattle.answers.proofs.Keeping.{not_full, not_asked, asked}
+use mathlib.Core.Path.{◌≡◌}
+use Rattle.codes.specs.declared.refusals.Reason.TheVariants as Reason
+use Rattle.answers.proofs.Keeping.{not_asked, asked_given, asked_refused}
 use borrow.Author.Rules.{rules}
 use Rattle.answers.proofs.second_told.Goals as goal
+use Rattle.answers.proofs.second_told.Goals.{in_default-via-in-Err+else-eq, in_default-via-in_default}
 
-pub returns-in-Full : goal.returns-in-Full
-returns-in-Full c =
-    not_asked _ _ _ _ _ c.in-Full.is
+pub returns-in-Err : goal.returns-in-Err
+returns-in-Err c =
+    let full : c.in-Err.refusal.reason ≡ Reason.Room = search rules in
+    let p = not_asked _ _ c.args.work.now c.args.query.now c.args.doc.now c.in-Err.is full in
+    (cc p.0, p.1)
 
 pub returns-in_default : goal.returns-in_default
 returns-in_default c =
-    let e = c.evaluate in
-    asked _ _ _ _ _ _ _ (not_full _ c.in_default.not-Full) c.evaluation_told.ensures e.ensures.0
-    e.ensures.1
+    elim c.in_default.branch [
+      | in_default-via-in-Err+else-eq w ↦
+          let full : w.in-Err.refusal.reason ≡ Reason.Room → ⊥ = search rules in
+          asked_refused _ _ _ _ _ _ c.evaluation_told.ensures c.evaluate.ensures.0 c.evaluate.ensures.1 _ _ w.in-Err.is full
+      | in_default-via-in_default w ↦
+          asked_given _ _ _ _ _ _ c.evaluation_told.ensures c.evaluate.ensures.0 c.evaluate.ensures.1 _ _ w.in_default.is
+    ]

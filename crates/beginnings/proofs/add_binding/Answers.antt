@@ -1,5 +1,4 @@
 -- `beginnings::add_binding` meets its contract.
-use borrow.Author.Rules.{rules}
 use Rattle.beginnings.proofs.add_binding.Goals as goal
 
 pub returns-in-For : goal.returns-in-For

@@ -11,27 +11,27 @@ use Rattle.beginnings.proofs.for_or_false.Goals as goal
 
 pub binding-requires : goal.binding-requires
 binding-requires c = (
-  (looks_there _ _ _ c.byte-b.ensures 111 c.if-b.true
+  (looks_there _ _ _ c.byte.ensures 111 c.in-111.is
       (omega arith)).0,
   c.requires.1,
   c.requires.2,
 )
 
-pub returns-then-b : goal.returns-then-b
+pub returns-in-111 : goal.returns-in-111
 unfolding first rest
-returns-then-b c =
+returns-in-111 c =
     λ rd d e.
     begins_left _ (for_part rd d e)
-    (looks_there _ _ _ c.byte-b.ensures 111
-    c.if-b.true (omega arith)).1 refl
+    (looks_there _ _ _ c.byte.ensures 111
+    c.in-111.is (omega arith)).1 refl
     (c.binding.ensures rd d e)
 
-pub returns : goal.returns
-returns c =
+pub returns-in_default : goal.returns-in_default
+returns-in_default c =
     λ rd d e.
     begins_sides rd d e
     (record {
-      means = for_other rd d e _ _ (looks_first _ _ _ c.byte-b.ensures) c.if-b.false;
+      means = for_other rd d e _ _ (looks_first _ _ _ c.byte.ensures) (search rules);
       inside = c.requires.0;
       same = refl;
     })

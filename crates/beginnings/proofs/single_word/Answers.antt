@@ -11,14 +11,14 @@ use Rattle.beginnings.proofs.single_word.Goals as goal
 
 pub for_or_false-requires : goal.for_or_false-requires
 for_or_false-requires c = (
-  (looks_there _ _ _ c.byte-b.ensures 102 c.in-102.is (omega arith)).0,
+  (looks_there _ _ _ c.byte.ensures 102 c.in-102.is (omega arith)).0,
   c.requires.1,
   c.requires.2,
 )
 
 pub binding-requires : goal.binding-requires
 binding-requires c = (
-  (looks_there _ _ _ c.byte-b.ensures 108 c.in-108.is
+  (looks_there _ _ _ c.byte.ensures 108 c.in-108.is
       (omega arith)).0,
   c.requires.1,
   c.requires.2,
@@ -26,7 +26,7 @@ binding-requires c = (
 
 pub choice-requires : goal.choice-requires
 choice-requires c = (
-  (looks_there _ _ _ c.byte-b.ensures 105 c.in-105.is (omega arith)).0,
+  (looks_there _ _ _ c.byte.ensures 105 c.in-105.is (omega arith)).0,
   c.requires.1,
   c.requires.2,
 )
@@ -36,7 +36,7 @@ unfolding first rest
 returns-in-102 c =
     λ rd d e.
     begins_left _ (single_word rd d e)
-    (looks_there _ _ _ c.byte-b.ensures 102
+    (looks_there _ _ _ c.byte.ensures 102
     c.in-102.is (omega arith)).1 refl
     (c.for_or_false.ensures rd d e)
 
@@ -45,7 +45,7 @@ unfolding first rest
 returns-in-108 c =
     λ rd d e.
     begins_left _ (single_word rd d e)
-    (looks_there _ _ _ c.byte-b.ensures 108
+    (looks_there _ _ _ c.byte.ensures 108
     c.in-108.is (omega arith)).1 refl
     (c.binding.ensures rd d e)
 
@@ -54,7 +54,7 @@ unfolding first rest
 returns-in-105 c =
     λ rd d e.
     begins_left _ (single_word rd d e)
-    (looks_there _ _ _ c.byte-b.ensures 105
+    (looks_there _ _ _ c.byte.ensures 105
     c.in-105.is (omega arith)).1 refl
     (c.choice.ensures rd d e)
 
@@ -63,7 +63,7 @@ returns-in_default c =
     λ rd d e.
     begins_sides rd d e
     (record {
-      means = single_other rd d e _ _ (looks_first _ _ _ c.byte-b.ensures) (search rules);
+      means = single_other rd d e _ _ (looks_first _ _ _ c.byte.ensures) (search rules);
       inside = c.requires.0;
       same = refl;
     })

@@ -1,5 +1,4 @@
 -- `into_branch` meets its contract: the flags of the free variables, then the variables lifted.
-use borrow.Author.Rules.{rules}
 use Rattle.carrying.proofs.Carrying.{branch_carried}
 use Rattle.carrying.proofs.into_branch.Goals as goal
 

@@ -3,20 +3,11 @@ use mathlib.Core.Path.{sym, ◌∙◌, ap, subst}
 use borrow.Author.Rules.{rules}
 use mir.Syntax.{w32, w64}
 use mir.Val.{SFits}
-use mir.Facts.{to_z-of_z, sfits_widen}
+use mir.Facts.{to_z-of_z}
 use Rattle.cells.specs.Cell.{cell_of}
 use Rattle.cells.specs.Small.{Small}
 use Rattle.cells.proofs.Bits.{read_back}
 use Rattle.cells.proofs.cell_of.Goals as goal
-
-pub overflow_cast-result : goal.overflow_cast-result
-overflow_cast-result c =
-    let narrow : SFits w32 c.in-Integer.z = search rules in
-    rw (to_z-of_z narrow) (sfits_widen tt narrow)
-
-pub truth_cell-requires : goal.truth_cell-requires
-truth_cell-requires c =
-    tt
 
 pub node_cell-requires : goal.node_cell-requires
 node_cell-requires c =
@@ -26,7 +17,7 @@ pub returns-in-Integer : goal.returns-in-Integer
 unfolding cell_of
 returns-in-Integer c =
     let narrow : SFits w32 c.in-Integer.z = search rules in
-    to_z-of_z {w = w64} (rw (to_z-of_z narrow) (sfits_widen tt narrow)) ∙ to_z-of_z narrow ∙ sym (ap cell_of c.in-Integer.is)
+    read_back w64 c.from.type_inv ∙ c.from.ensures ∙ to_z-of_z narrow ∙ sym (ap cell_of c.in-Integer.is)
 
 pub returns-in-Truth : goal.returns-in-Truth
 unfolding cell_of

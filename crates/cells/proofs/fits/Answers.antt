@@ -1,5 +1,6 @@
 -- `cells::fits` meets its contract: within, what is left is compared; past the end, nothing fits.
-use borrow.Author.Rules.{rules}
+use mathlib.Core.Path.{◌∙◌}
+use borrow.Author.Tests.{lt-leb}
 use Rattle.cells.proofs.Bytes.{fits_within, fits_past}
 use Rattle.cells.proofs.fits.Goals as goal
 
@@ -9,4 +10,4 @@ returns-then-at-s c =
 
 pub returns-else-at-s : goal.returns-else-at-s
 returns-else-at-s c =
-    fits_past _ _ _ c.if-at-s.false
+    lt-leb _ _ c.if-at-s.false ∙ fits_past _ _ _ c.if-at-s.false

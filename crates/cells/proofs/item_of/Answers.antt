@@ -1,16 +1,15 @@
 -- `cells::item_of` meets its contract, range by range.
+use Rattle.std.specs.Prelude.{Some}
 use mathlib.Core.Path.{◌≡◌, sym, ◌∙◌, ap}
-use mathlib.Core.Bool.{true, false}
+use mathlib.Core.Bool.{true}
 use Prim.Native.Nat.{ℕ, ◌-◌, ◌≤◌, ◌<◌}
 use native.Mathlib.Omega.{arith}
 use lib.IntN.{ℤ, pos, nat_abs}
-use lib.Signed.{lt_z}
 use mir.Syntax.{w32, w64}
 use borrow.Author.Tests.{ltb-true}
 use mir.Val.{of_z, to_z}
 use mir.Facts.{to_z-of_z}
 use Rattle.cells.specs.declared.Item.TheVariants.{Integer, Node}
-use Rattle.cells.specs.declared.Held.TheVariants as Held
 use Rattle.cells.specs.Cell.{in_range, held}
 use Rattle.cells.proofs.Holding.{range_mag, from_range, held_integer, held_below, from_here, held_stray}
 use Rattle.cells.proofs.Holding.{held_node}
@@ -56,7 +55,7 @@ returns-in-minus2147483648-to-2147483647 c =
     let back : to_z w64 (of_z w64 c.args.cell) ≡ c.args.cell = to_z-of_z c.ranges.cell in
     let integer : in_range c.args.cell ≡ true = let b = back in
     sym (from_range _ (rw b at c.in-minus2147483648-to-2147483647.if-cell-ltminus2147483648-own.false)) ∙ rw b at c.in-minus2147483648-to-2147483647.if-cell-lt2147483648-own.true in
-    ap (λ (z : ℤ). Held.Item (Integer z)) (to_z-of_z {w = w32} (rw back (record { sfits = range_mag _ integer })) ∙ back)
+    ap (λ (z : ℤ). Some (Integer z)) (to_z-of_z {w = w32} (rw back (record { sfits = range_mag _ integer })) ∙ back)
     ∙ sym (held_integer _ integer)
 
 pub returns-in-8589934592-to-9223372036854775807 : goal.returns-in-8589934592-to-9223372036854775807
@@ -65,7 +64,7 @@ returns-in-8589934592-to-9223372036854775807 c =
     let node : (n : ℕ) × (c.args.cell ≡ pos n) × (0x2_0000_0000 ≤ n) = from_here 0x2_0000_0000 _ (rw back at c.in-8589934592-to-9223372036854775807.if-cell-lt8589934592-own.false) in
     let n = node in
     let e = n.1 in
-    ap (λ (z : ℤ). Held.Item (Node (record { 0 = nat_abs z - 0x2_0000_0000 })))
+    ap (λ (z : ℤ). Some (Node (record { 0 = nat_abs z - 0x2_0000_0000 })))
     (back ∙ e)
     ∙ sym (held_node _ n.2) ∙ ap held (sym e)
 

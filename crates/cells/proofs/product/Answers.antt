@@ -1,30 +1,8 @@
--- `cells::product` meets its contract.
-use mathlib.Core.Path.{sym, ◌∙◌, ap, subst}
-use lib.IntN.{◌*ℤ◌}
-use mir.Syntax.{w64}
-use mir.Val.{SFits}
+-- `product` meets its contract.
 use mir.Facts.{to_z-of_z}
-use Rattle.cells.specs.Arithmetic.{number_of}
-use Rattle.cells.proofs.Arithmetic.{product_fits, wide_fits, wide_op}
+use Rattle.cells.proofs.Arithmetic.{checked}
 use Rattle.cells.proofs.product.Goals as goal
-
-pub overflow_cast-x : goal.overflow_cast-x
-overflow_cast-x c =
-    wide_fits c.ranges.x
-
-pub overflow_cast-y : goal.overflow_cast-y
-overflow_cast-y c =
-    wide_fits c.ranges.y
-
-pub overflow_mul-x : goal.overflow_mul-x
-overflow_mul-x c =
-    subst (SFits w64) (sym (wide_op ◌*ℤ◌ c.ranges.x c.ranges.y)) (product_fits c.ranges.x c.ranges.y)
-
-pub number_of-requires : goal.number_of-requires
-number_of-requires c =
-    tt
 
 pub returns : goal.returns
 returns c =
-    c.number_of.ensures
-    ∙ ap number_of (to_z-of_z (subst (SFits w64) (sym (wide_op ◌*ℤ◌ c.ranges.x c.ranges.y)) (product_fits c.ranges.x c.ranges.y)) ∙ wide_op ◌*ℤ◌ c.ranges.x c.ranges.y)
+    checked _ _ (rw (to_z-of_z c.ranges.x, to_z-of_z c.ranges.y) at c.checked_mul.ensures)

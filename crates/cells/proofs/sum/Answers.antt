@@ -1,30 +1,8 @@
--- `cells::sum` meets its contract.
-use mathlib.Core.Path.{sym, ◌∙◌, ap, subst}
-use lib.IntN.{◌+ℤ◌}
-use mir.Syntax.{w64}
-use mir.Val.{SFits}
+-- `sum` meets its contract.
 use mir.Facts.{to_z-of_z}
-use Rattle.cells.specs.Arithmetic.{number_of}
-use Rattle.cells.proofs.Arithmetic.{sum_fits, wide_fits, wide_op}
+use Rattle.cells.proofs.Arithmetic.{checked}
 use Rattle.cells.proofs.sum.Goals as goal
-
-pub overflow_cast-x : goal.overflow_cast-x
-overflow_cast-x c =
-    wide_fits c.ranges.x
-
-pub overflow_cast-y : goal.overflow_cast-y
-overflow_cast-y c =
-    wide_fits c.ranges.y
-
-pub overflow_add-x : goal.overflow_add-x
-overflow_add-x c =
-    subst (SFits w64) (sym (wide_op ◌+ℤ◌ c.ranges.x c.ranges.y)) (sum_fits c.ranges.x c.ranges.y)
-
-pub number_of-requires : goal.number_of-requires
-number_of-requires c =
-    tt
 
 pub returns : goal.returns
 returns c =
-    c.number_of.ensures
-    ∙ ap number_of (to_z-of_z (subst (SFits w64) (sym (wide_op ◌+ℤ◌ c.ranges.x c.ranges.y)) (sum_fits c.ranges.x c.ranges.y)) ∙ wide_op ◌+ℤ◌ c.ranges.x c.ranges.y)
+    checked _ _ (rw (to_z-of_z c.ranges.x, to_z-of_z c.ranges.y) at c.checked_add.ensures)

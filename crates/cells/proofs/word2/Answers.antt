@@ -1,7 +1,6 @@
 -- `cells::word2` meets its contract: the first half weighs 256 ^ 1.
 use mathlib.Core.Path.{sym, ◌∙◌}
 use native.Mathlib.Omega.{arith}
-use borrow.Author.Rules.{rules}
 use Rattle.cells.proofs.Bytes.{word_one, word_halves}
 use Rattle.cells.proofs.word2.Goals as goal
 

@@ -1,6 +1,5 @@
 -- `cells::word4` meets its contract: the first half weighs 256 ^ 2.
 use native.Mathlib.Omega.{arith}
-use borrow.Author.Rules.{rules}
 use Rattle.cells.proofs.Bytes.{word_halves}
 use Rattle.cells.proofs.word4.Goals as goal
 

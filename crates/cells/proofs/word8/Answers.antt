@@ -1,6 +1,5 @@
 -- `cells::word8` meets its contract: the first half weighs 256 ^ 4.
 use native.Mathlib.Omega.{arith}
-use borrow.Author.Rules.{rules}
 use Rattle.cells.proofs.Bytes.{word_halves}
 use Rattle.cells.proofs.word8.Goals as goal
 

@@ -1,10 +1,8 @@
 -- `counting::pair` meets its contract: two cells are stored, where there is room for them.
-use Prim.Native.Nat.{◌-◌}
 use native.Mathlib.Omega.{arith}
 use lib.ListN.{length-set}
 use mir.Facts.{to_z-of_z}
 use Rattle.members.proofs.Members.{pair_full, pair_laid}
-use borrow.Author.Rules.{rules}
 use Rattle.counting.proofs.pair.Goals as goal
 
 pub returns-then-room-at-lt2 : goal.returns-then-room-at-lt2

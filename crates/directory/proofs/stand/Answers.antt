@@ -5,5 +5,4 @@ use Rattle.directory.proofs.stand.Goals as goal
 
 pub returns : goal.returns
 unfolding stand_at
-returns c =
-    search rules
+returns c = search rules

@@ -1,5 +1,4 @@
 -- `kind` reads a row's kind: the byte after the level.
-use borrow.Author.Rules.{rules}
 use Rattle.doc_rows.specs.Fields.{kind_at}
 use Rattle.doc_rows.proofs.kind.Goals as goal
 

@@ -1,5 +1,4 @@
 -- `level` reads a row's level: the byte after the size.
-use borrow.Author.Rules.{rules}
 use Rattle.doc_rows.specs.Fields.{level_at}
 use Rattle.doc_rows.proofs.level.Goals as goal
 

@@ -2,7 +2,6 @@
 use mathlib.Core.Path.{◌∙◌}
 use mir.Facts.{to_z-of_z}
 use mir.Syntax.{w32}
-use borrow.Author.Rules.{rules}
 use Rattle.doc_rows.specs.Fields.{prop_at}
 use Rattle.doc_rows.proofs.prop.Goals as goal
 

@@ -1,5 +1,4 @@
 -- `size` reads a row's size: the two bytes after the mark.
-use borrow.Author.Rules.{rules}
 use Rattle.doc_rows.specs.Fields.{size_at}
 use Rattle.doc_rows.proofs.size.Goals as goal
 

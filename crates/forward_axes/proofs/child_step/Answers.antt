@@ -1,15 +1,13 @@
 -- `forward_axes::child_step` meets its contract. The invariant: the flags of the rows before v are those of the step,
 -- and at one more than a level `opens` has the mark of the last row before v of that level.
-use Prim.Native.Nat.{◌≤◌, ◌-◌, zero-le}
 use mathlib.Core.Path.{◌≡◌, ap, ◌∙◌}
 use mathlib.Core.Bool.{false}
 use lib.ListN.{get_or}
 use native.Mathlib.Omega.{arith}
 use Rattle.codes.specs.declared.Axis.TheVariants.{Child}
 use Rattle.meaning.specs.Catalogue.{catalogue_of}
-use Rattle.step_parts.specs.Steps.{AxisPart}
 use Rattle.step_parts.proofs.Marking.{part_none, part_up}
-use Rattle.forward_axes.proofs.Child.{Opens, opens_begin, opens_more, opens_flag}
+use Rattle.forward_axes.proofs.Child.{opens_begin, opens_more, opens_flag}
 use Rattle.forward_axes.proofs.child_step.Goals as goal
 
 pub loop-v-init : goal.loop-v-init
@@ -17,43 +15,11 @@ loop-v-init c =
     let args = c.args in
     let cat = catalogue_of args.doc.now args.rows in
     let nested = c.requires.known.nested in
-    (zero-le, opens_begin cat args.rows nested args.from.now, part_none _ _ _ _ _ _ 0)
+    (opens_begin cat args.rows nested args.from.now, part_none _ _ _ _ _ _ 0)
 
 pub level_of-level-requires : goal.level_of-level-requires
 level_of-level-requires c =
     (c.requires.known, c.loop-v-test.true)
-
-pub bounds-opens-level : goal.bounds-opens-level
-bounds-opens-level c =
-    omega arith
-
-pub takes-requires : goal.takes-requires
-takes-requires c =
-    omega arith
-
-pub bounds-to-v : goal.bounds-to-v
-bounds-to-v c =
-    omega arith
-
-pub bounds-from-v : goal.bounds-from-v
-bounds-from-v c =
-    omega arith
-
-pub overflow_add-opens : goal.overflow_add-opens
-overflow_add-opens c =
-    omega arith
-
-pub bounds-opens-level-in-loop-v : goal.bounds-opens-level-in-loop-v
-bounds-opens-level-in-loop-v c =
-    omega arith
-
-pub overflow_add-v : goal.overflow_add-v
-overflow_add-v c =
-    omega arith
-
-pub loop-v-smaller : goal.loop-v-smaller
-loop-v-smaller c =
-    omega arith
 
 pub loop-v-preserved : goal.loop-v-preserved
 loop-v-preserved c =
@@ -63,18 +29,17 @@ loop-v-preserved c =
     let nested = c.requires.known.nested in
     let here = c.loop-v-test.true in
     let cat = catalogue_of args.doc.now args.rows in (
-      omega arith,
       rw c.level_of-level.ensures.0
-          (opens_more cat args.rows nested from loop.v loop.opens here loop.invariant.1),
+          (opens_more cat args.rows nested from loop.v loop.opens here loop.invariant.0),
       part_up args.doc.now args.rows Child args.test from args.to.now loop.to loop.v _ _
           (omega arith)
           (c.takes.ensures args.rows)
           (ap (λ l. get_or loop.opens l false) c.level_of-level.ensures.0
-          ∙ opens_flag cat args.rows nested from loop.v loop.opens here loop.invariant.1)
-          loop.invariant.2,
+          ∙ opens_flag cat args.rows nested from loop.v loop.opens here loop.invariant.0)
+          loop.invariant.1,
     )
 
 pub returns : goal.returns
 returns c =
     let end : c.loop-v.v ≡ c.args.rows = omega arith in
-    rw end at c.loop-v.invariant.2
+    rw end at c.loop-v.invariant.1

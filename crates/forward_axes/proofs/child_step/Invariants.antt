@@ -1,23 +1,12 @@
 -- `forward_axes::child_step` meets its contract. The invariant: the flags of the rows before v are those of the step,
 -- and at one more than a level `opens` has the mark of the last row before v of that level.
-use Prim.Native.Nat.{◌≤◌, ◌-◌, zero-le}
-use mathlib.Core.Path.{◌≡◌, ap, ◌∙◌}
-use mathlib.Core.Bool.{false}
-use lib.ListN.{get_or}
-use native.Mathlib.Omega.{arith}
 use Rattle.codes.specs.declared.Axis.TheVariants.{Child}
 use Rattle.meaning.specs.Catalogue.{catalogue_of}
 use Rattle.step_parts.specs.Steps.{AxisPart}
-use Rattle.step_parts.proofs.Marking.{part_none, part_up}
-use Rattle.forward_axes.proofs.Child.{Opens, opens_begin, opens_more, opens_flag}
+use Rattle.forward_axes.proofs.Child.{Opens}
 use Rattle.forward_axes.proofs.child_step.Given as goal
 
 abbrev pub invariant-loop-v : goal.invariant-loop-v
 invariant-loop-v l =
-    (l.v ≤ l.rows)
-    × Opens (catalogue_of l.doc l.rows).level l.from l.v l.opens
+    Opens (catalogue_of l.doc l.rows).level l.from l.v l.opens
     × AxisPart 0 l.v l.doc l.rows Child l.test l.from l.initial.to l.to
-
-abbrev pub decreases-loop-v : goal.decreases-loop-v
-decreases-loop-v l =
-    l.rows - l.v

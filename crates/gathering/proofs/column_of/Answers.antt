@@ -1,7 +1,6 @@
--- `groups::each::column_of` meets its contract.
+-- `gathering::column_of` meets its contract.
 use mathlib.Core.Path.{sym, ap}
 use Rattle.gathering.specs.Gathered.{column_of}
-use borrow.Author.Rules.{rules}
 use Rattle.gathering.proofs.column_of.Goals as goal
 
 pub returns-in-Count : goal.returns-in-Count

@@ -1,6 +1,5 @@
--- `groups::each::lay_group` meets its contract: each kind of gathering by its own function.
+-- `gathering::lay_group` meets its contract: each kind of gathering by its own function.
 use Rattle.gathering.proofs.Gathering.{suits_count, suits_truth, suits_step, owes_count, owes_truth, owes_step}
-use borrow.Author.Rules.{rules}
 use Rattle.gathering.proofs.lay_group.Goals as goal
 
 pub count_group-requires : goal.count_group-requires

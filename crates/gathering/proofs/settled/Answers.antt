@@ -1,15 +1,13 @@
--- `groups::each::settled` meets its contract.
+-- `gathering::settled` meets its contract.
 use mathlib.Core.Path.{sym, ap, ◌∙◌}
 use native.Mathlib.Omega.{arith}
-use borrow.Author.Tests.{not-true, not-false}
 use Rattle.tables.specs.Layout.{Inside}
 use Rattle.tables.specs.Laying.{succeeds}
 use Rattle.gathering.specs.Gathered.{column_of}
 use Rattle.gathering.specs.declared.Gather.TheVariants.{Truth}
 use Rattle.meaning.specs.World.{world_of}
 use Rattle.gathering.proofs.Turns.{turn_no}
-use Rattle.gathering.proofs.Passing.{truth_turn}
-use borrow.Author.Rules.{rules}
+use Rattle.gathering.proofs.Passing.{some_judged, truth_turn}
 use Rattle.gathering.proofs.settled.Goals as goal
 
 pub opens-requires : goal.opens-requires
@@ -34,6 +32,7 @@ group_truth-requires c =
 pub returns : goal.returns
 returns c =
     λ d.
-    c.is_judged.ensures
+    c.is_some.ensures
+    ∙ some_judged c.group_truth.result
     ∙ ap succeeds c.group_truth.ensures
     ∙ truth_turn d _ _ _ (sym c.opens.ensures ∙ c.if-not-opens.false) c.part.ensures.3 c.part.ensures.4

@@ -1,21 +1,13 @@
--- `groups::each::settles` meets its contract. The invariant: the turns from row i on succeed exactly where all do.
--- The measure is how many rows are left.
+-- `gathering::settles` meets its contract. The invariant: the turns from row i on succeed exactly where all do.
 use Prim.Native.Nat.{◌-◌, ◌<◌}
-use mathlib.Core.Path.{◌≡◌, sym, ◌∙◌}
+use mathlib.Core.Path.{sym, ◌∙◌}
 use native.Mathlib.Omega.{arith}
 use lib.ListN.{length}
-use borrow.Author.Tests.{not-true, not-false}
-use Rattle.laws.specs.Lists.{all}
-use Rattle.meaning.specs.Catalogue.{Catalogue}
 use Rattle.meaning.specs.World.{world_of}
 use Rattle.tables.specs.Layout.{table_at}
-use Rattle.tables.specs.Laying.{succeeds}
 use Rattle.gathering.specs.declared.Gather.TheVariants.{Truth}
-use Rattle.gathering.specs.Gathered.{whole}
 use Rattle.tables.proofs.Reading.{length_table}
-use Rattle.gathering.proofs.Turns.{rest}
 use Rattle.gathering.proofs.Passing.{tests_first, tests_fails, tests_more, tests_end}
-use borrow.Author.Rules.{rules}
 use Rattle.gathering.proofs.settles.Goals as goal
 
 pub loop-i-init : goal.loop-i-init

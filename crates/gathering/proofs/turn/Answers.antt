@@ -1,9 +1,8 @@
--- `groups::each::turn` meets its contract: a row that opens no group makes no rows; for one that opens a group the
+-- `gathering::turn` meets its contract: a row that opens no group makes no rows; for one that opens a group the
 -- rows are made of the part of the table that has all the group's.
 use Prim.Native.Nat.{ℕ, ◌<◌}
 use mathlib.Core.Path.{◌≡◌, sym, ap, ◌∙◌, subst}
 use native.Mathlib.Omega.{arith}
-use borrow.Author.Tests.{not-true, not-false}
 use Rattle.meaning.specs.Operators.{column, group_of}
 use Rattle.tables.specs.Layout.{table_at, Inside}
 use Rattle.tables.proofs.Promise.{owes_is, none_laid}
@@ -12,7 +11,6 @@ use Rattle.tables.specs.Order.{cell_at, climbs}
 use Rattle.gathering.specs.Gathered.{column_of}
 use Rattle.gathering.proofs.Turns.{turn_no, turn_yes}
 use Rattle.gathering.proofs.Gathering.{suits_column, suits_wide}
-use borrow.Author.Rules.{rules}
 use Rattle.gathering.proofs.turn.Goals as goal
 
 pub opens-requires : goal.opens-requires

@@ -5,7 +5,6 @@ use Rattle.tables.specs.Layout.{Inside}
 use Rattle.tables.proofs.Promise.{owes_is}
 use Rattle.gathering.specs.Gathered.{Asks, column_of}
 use Rattle.gathering.proofs.Gathering.{counts_is, counts_settled}
-use borrow.Author.Rules.{rules}
 use Rattle.groups.proofs.counts.Goals as goal
 
 pub climbs-up-requires : goal.climbs-up-requires

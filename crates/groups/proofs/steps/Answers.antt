@@ -2,7 +2,6 @@
 -- is one.
 use mathlib.Core.Path.{refl, sym, ◌∙◌}
 use native.Mathlib.Omega.{arith}
-use borrow.Author.Tests.{not-true, not-false}
 use Rattle.meaning.specs.Catalogue.{catalogue_of}
 use Rattle.tables.specs.Layout.{table_at, Inside, Owes}
 use Rattle.tables.proofs.Promise.{owes_is}
@@ -10,7 +9,6 @@ use Rattle.gathering.specs.Gathered.{Asks, column_of}
 use Rattle.gathering.proofs.Turns.{settled_yes, failed_no}
 use Rattle.stepping.proofs.Nodes.{rows_of_lem}
 use Rattle.gathering.proofs.Gathering.{steps_is, steps_succeed}
-use borrow.Author.Rules.{rules}
 use Rattle.groups.proofs.steps.Goals as goal
 
 pub all_nodes-requires : goal.all_nodes-requires

@@ -1,14 +1,12 @@
 -- `groups::truths` meets its contract: it fails where some group has no truth, and lays the rows where each has one.
 use mathlib.Core.Path.{refl, sym, ◌∙◌}
 use native.Mathlib.Omega.{arith}
-use borrow.Author.Tests.{not-true, not-false}
 use Rattle.meaning.specs.Catalogue.{catalogue_of}
 use Rattle.tables.specs.Layout.{Inside, Owes}
 use Rattle.tables.proofs.Promise.{owes_is}
 use Rattle.gathering.specs.Gathered.{Asks, column_of}
 use Rattle.gathering.proofs.Turns.{settled_yes, failed_no}
 use Rattle.gathering.proofs.Gathering.{truths_is}
-use borrow.Author.Rules.{rules}
 use Rattle.groups.proofs.truths.Goals as goal
 
 pub climbs-up-requires : goal.climbs-up-requires

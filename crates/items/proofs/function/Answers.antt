@@ -8,9 +8,8 @@ use Rattle.cells.specs.Cell.{truth_cell}
 use Rattle.codes.specs.declared.Function.TheVariants.{Add, Subtract, Multiply, Divide, Equal, Less}
 use Rattle.laws.specs.Attempt.{gives}
 use Rattle.meaning.specs.World as World
-use Rattle.items.specs.Answers.{integer_tried, tried}
+use Rattle.items.specs.Answers.{integer_tried}
 use Rattle.items.proofs.Cases.{number_ranged, number_quotient, function_is}
-use borrow.Author.Rules.{rules}
 use Rattle.items.proofs.function.Goals as goal
 
 pub returns-in-Add : goal.returns-in-Add
@@ -58,7 +57,7 @@ returns-in-Divide c =
     y-is
 
 pub returns-in-Equal : goal.returns-in-Equal
-unfolding tried World.function
+unfolding World.function
 returns-in-Equal c =
     let x-is : to_z w32 (of_z w32 c.args.x) ≡ c.args.x = to_z-of_z c.ranges.x in
     let y-is : to_z w32 (of_z w32 c.args.y) ≡ c.args.y = to_z-of_z c.ranges.y in
@@ -67,7 +66,7 @@ returns-in-Equal c =
     y-is
 
 pub returns-in-Less : goal.returns-in-Less
-unfolding tried World.function
+unfolding World.function
 returns-in-Less c =
     let x-is : to_z w32 (of_z w32 c.args.x) ≡ c.args.x = to_z-of_z c.ranges.x in
     let y-is : to_z w32 (of_z w32 c.args.y) ≡ c.args.y = to_z-of_z c.ranges.y in

@@ -7,21 +7,20 @@ use Rattle.cells.proofs.Bits.{read_back}
 use Rattle.laws.specs.Attempt.{gives}
 use Rattle.meaning.specs.Catalogue.{catalogue_of}
 use Rattle.meaning.specs.World.{value_in}
-use Rattle.items.specs.Answers.{integer_tried, tried, text_value}
+use Rattle.items.specs.Answers.{text_value}
 use Rattle.items.proofs.Cases.{value_is}
 use borrow.Author.Rules.{rules}
 use Rattle.items.proofs.value_in.Goals as goal
 
 pub returns-in-Integer : goal.returns-in-Integer
-unfolding integer_tried value_in
+unfolding value_in
 returns-in-Integer c =
     let narrow : SFits w32 c.in-Integer.z = search rules in
-    c.given.ensures
-    ∙ ap gives (to_z-of_z narrow)
+    ap gives (read_back w64 c.from.type_inv ∙ c.from.ensures ∙ to_z-of_z narrow)
     ∙ value_is (catalogue_of c.args.doc.now c.args.rows) _ _ c.in-Integer.is
 
 pub returns-in-Truth : goal.returns-in-Truth
-unfolding tried value_in
+unfolding value_in
 returns-in-Truth c =
     ap gives (read_back w64 c.truth_cell.type_inv ∙ c.truth_cell.ensures)
     ∙ value_is (catalogue_of c.args.doc.now c.args.rows) _ _ c.in-Truth.is

@@ -1,5 +1,5 @@
 -- `judging::first_of` meets its contract. The invariant: row `best` comes first of the group's rows before
--- row i, and what is left gives what the whole gives. The measure is how many rows are left.
+-- row i, and what is left gives what the whole gives.
 use Prim.Native.Nat.{◌-◌, ◌<◌}
 use mathlib.Core.Path.{◌≡◌, sym, ap, ◌∙◌}
 use mathlib.Core.List.{[]}
@@ -21,7 +21,8 @@ pub loop-i-init : goal.loop-i-init
 loop-i-init c =
     let t = table_at c.args.work.now c.args.s in (
       omega arith,
-      ap (λ x. least (get_or t 0 []) (group_of (drop 1 t) 0 x)) (read_back w64 c.cell_at-x.type_inv ∙ c.cell_at-x.ensures),
+      ap (λ x. least (get_or t 0 []) (group_of (drop 1 t) 0 x))
+          (read_back w64 c.cell_at-x.type_inv ∙ c.cell_at-x.ensures),
     )
 
 pub loop-i-preserved : goal.loop-i-preserved

@@ -1,5 +1,5 @@
 -- `judging::first_of` meets its contract. The invariant: row `best` comes first of the group's rows before
--- row i, and what is left gives what the whole gives. The measure is how many rows are left.
+-- row i, and what is left gives what the whole gives.
 use Prim.Native.Nat.{◌-◌, ◌<◌}
 use mathlib.Core.Path.{◌≡◌, sym, ap, ◌∙◌}
 use mathlib.Core.List.{[]}
@@ -23,7 +23,3 @@ invariant-loop-i l =
     (l.best < l.s.rows)
     × (least (get_or t l.best []) (group_of (drop l.i t) 0 l.x)
     ≡ least (get_or t 0 []) (group_of (drop 1 t) 0 (in_front t 0)))
-
-abbrev pub decreases-loop-i : goal.decreases-loop-i
-decreases-loop-i l =
-    l.s.rows - l.i

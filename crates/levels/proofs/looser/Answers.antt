@@ -1,13 +1,7 @@
--- `looser` meets its contract: the ranks decide.
-use mathlib.Core.Path.{ap₂, ◌∙◌}
-use lib.Dec.{ltb}
-use Rattle.grammar.specs.Written.{looser}
-use Rattle.levels.proofs.Ranks.{rank_is}
-use borrow.Author.Rules.{rules}
+-- `looser` meets its contract: the derived order of the variants is that of the levels.
+use mathlib.Core.Path.{◌∙◌}
+use Rattle.levels.proofs.Ranks.{order_is}
 use Rattle.levels.proofs.looser.Goals as goal
 
 pub returns : goal.returns
-unfolding looser
-returns c =
-    let a = c.args in
-    ap₂ ltb (c.rank.ensures ∙ rank_is a.own) (c.rank-2.ensures ∙ rank_is a.asked)
+returns c = c.lt.ensures ∙ order_is c.args.own c.args.asked

@@ -1,22 +1,9 @@
 -- `lines::put_verdict` meets its contract, by the verdict.
-use mathlib.Core.Path.{refl, sym, ap}
+use mathlib.Core.Path.{sym, ap}
 use native.Mathlib.Omega.{arith}
 use Rattle.lines.specs.Text.{same_line}
 use Rattle.pen.proofs.Putting.{pens_as}
-use borrow.Author.Rules.{rules}
 use Rattle.lines.proofs.put_verdict.Goals as goal
-
-pub put_word-requires : goal.put_word-requires
-put_word-requires c =
-    omega arith
-
-pub put_word-requires-in-Differ : goal.put_word-requires-in-Differ
-put_word-requires-in-Differ c =
-    omega arith
-
-pub put_word-requires-in-Room : goal.put_word-requires-in-Room
-put_word-requires-in-Room c =
-    omega arith
 
 pub returns-in-Agree : goal.returns-in-Agree
 unfolding same_line

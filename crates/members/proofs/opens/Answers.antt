@@ -1,16 +1,16 @@
 -- `members::opens` meets its contract: the first row; the row just above, where the column climbs; every row
 -- above.
 use Prim.Native.Nat.{◌-◌}
-use mathlib.Core.Path.{sym, ap, ap₂, ◌∙◌}
+use mathlib.Core.Path.{sym, ap, ◌∙◌}
 use mathlib.Core.Bool.{not}
 use native.Mathlib.Omega.{arith}
 use mir.Syntax.{w64}
 use Rattle.cells.proofs.Bits.{read_back}
 use Rattle.cells.specs.Cell.{same}
-use Rattle.tables.specs.Layout.{Inside}
+use Rattle.tables.specs.Layout.{table_at, Inside}
+use Rattle.tables.specs.Order.{cell_at}
 use Rattle.tables.proofs.Reading.{row_inside, length_table}
 use Rattle.members.proofs.Opening.{opens_first, opens_up, opens_else}
-use borrow.Author.Rules.{rules}
 use Rattle.members.proofs.opens.Goals as goal
 
 pub returns-then-i-eq0 : goal.returns-then-i-eq0
@@ -20,9 +20,9 @@ returns-then-i-eq0 c =
 pub returns-then-up : goal.returns-then-up
 returns-then-up c =
     ap not
-    (c.same.ensures
-    ∙ ap₂ same (read_back w64 c.cell_at-cell.type_inv ∙ c.cell_at-cell.ensures)
-    (read_back w64 c.cell_at.type_inv ∙ c.cell_at.ensures))
+    (c.holds.ensures
+    ∙ ap (λ z. same z (cell_at (table_at c.args.work.now c.args.s) c.args.c (c.args.i - 1)))
+    (read_back w64 c.cell_at-cell.type_inv ∙ c.cell_at-cell.ensures))
     ∙ opens_up _ _ _ (sym c.requires.up_value ∙ c.if-up.true) c.if-i-eq0.false
     (omega (arith, length_table c.args.work.now c.args.s, c.requires.inside.2))
 
@@ -32,6 +32,7 @@ occurs-requires c =
     (omega (arith, row_inside _ _ c.args.s.width c.requires.inside.2), omega arith)
 
 pub returns : goal.returns
+unfolding table_at
 returns c =
     ap not c.occurs.ensures
     ∙ opens_else _ _ _ _ _ c.requires.inside.2

@@ -1,8 +1,6 @@
 -- `members::part` meets its contract: all rows from row i on, or those that hold its cell.
-use Prim.Native.Nat.{◌-◌}
 use mathlib.Core.Path.{sym, ◌∙◌}
 use native.Mathlib.Omega.{arith}
-use borrow.Author.Tests.{not-false}
 use Rattle.tables.specs.Layout.{Inside}
 use Rattle.tables.proofs.Reading.{row_inside}
 use Rattle.members.proofs.Parts.{left_has, run_has}
@@ -17,10 +15,6 @@ pub overflow_add-left : goal.overflow_add-left
 unfolding Inside
 overflow_add-left c =
     omega (arith, row_inside _ _ c.args.s.width c.requires.inside.2)
-
-pub overflow_sub-left : goal.overflow_sub-left
-overflow_sub-left c =
-    omega arith
 
 pub returns-then-not-up : goal.returns-then-not-up
 returns-then-not-up c =

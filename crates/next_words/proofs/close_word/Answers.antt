@@ -3,8 +3,9 @@ use borrow.Author.Rules.{rules}
 use native.Mathlib.Omega.{arith}
 use Prim.Native.Nat.{◌+◌}
 use lib.ListN.{drop}
-use mathlib.Core.Path.{◌≡◌, refl, sym, ◌∙◌, ap}
-use Rattle.spelling.specs.Answers.{next_told, next_place}
+use mathlib.Core.Path.{sym, ◌∙◌, ap}
+use Rattle.numerals.specs.Answers.{read_place}
+use Rattle.spelling.specs.Answers.{value_told}
 use mathlib.Core.List.{[], ◌∷◌}
 use mathlib.Core.Bool.{Bool}
 use Rattle.parsing.specs.declared.Next.TheVariants.{Comma, Close, Return}
@@ -66,7 +67,7 @@ returns-in-256 c =
     c.last_word.ensures
 
 pub returns-in_default : goal.returns-in_default
-unfolding next_told next_place
+unfolding value_told read_place
 returns-in_default c =
     let looks = c.byte-b.ensures in
     let there = looks.there (omega arith) in

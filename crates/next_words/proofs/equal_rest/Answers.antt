@@ -1,12 +1,11 @@
 -- `next_words::equal_rest` meets its contract.
-use borrow.Author.Rules.{rules}
 use native.Mathlib.Omega.{arith}
 use mathlib.Core.Bool.{true}
-use mathlib.Core.Path.{◌≡◌, refl, sym, ◌∙◌, ap}
+use mathlib.Core.Path.{refl, sym, ◌∙◌}
 use Rattle.laws.specs.Characters.{first}
 use Rattle.parsing.specs.Reader.{rest}
-use borrow.Author.Tests.{not-true, not-false}
-use Rattle.spelling.specs.Answers.{next_told, next_place, equal_rest}
+use Rattle.numerals.specs.Answers.{read_place}
+use Rattle.spelling.specs.Answers.{value_told, equal_rest}
 use Rattle.spelling.proofs.Bridging.{looks_first, looks_there}
 use Rattle.spelling.proofs.Answering.{by_left, chosen}
 use Rattle.spelling.proofs.Choosing.{equal_other}
@@ -20,10 +19,10 @@ returns-then-not-compares c =
       inside = c.else_rest.ensures.inside;
     }
 
-pub returns-then-b : goal.returns-then-b
-unfolding first rest next_told next_place
-returns-then-b c =
-    let there = looks_there _ _ _ c.byte-b.ensures 113 c.if-b.true (omega arith) in
+pub returns-then-b-from : goal.returns-then-b-from
+unfolding first rest value_told read_place
+returns-then-b-from c =
+    let there = looks_there _ _ _ c.byte-b.ensures 113 (c.if-b-from.true ∙ c.from.ensures) (omega arith) in
     let a = c.args in
     chosen (equal_rest a.compares a.otherwise) (equal_rest true a.otherwise) there.1
     (rw c.if-not-compares.false)
@@ -35,6 +34,6 @@ returns c =
       means =
           rw c.if-not-compares.false
           (equal_other _ _ (looks_first _ _ _ c.byte-b.ensures)
-          c.args.otherwise c.if-b.false ∙ c.else_rest-2.ensures.means);
+          c.args.otherwise (λ e. c.if-b-from.false (e ∙ sym c.from.ensures)) ∙ c.else_rest-2.ensures.means);
       inside = c.else_rest-2.ensures.inside;
     }

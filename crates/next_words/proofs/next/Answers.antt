@@ -1,24 +1,22 @@
 -- `next_words::next` meets its contract.
-use borrow.Author.Rules.{rules}
-use mathlib.Core.Path.{◌≡◌, refl, sym, ◌∙◌, ap}
-use Rattle.spelling.specs.Answers.{next_told, next_place, kind_is, next_word}
-use Rattle.spelling.proofs.Answering.{passed, stopped, entry_reads, on, off}
+use Rattle.spelling.specs.Answers.{kind_is, next_word}
+use Rattle.spelling.proofs.Answering.{passed, stopped, entry_reads, on, off, value_up}
 use Rattle.next_words.proofs.next.Goals as goal
 
 pub next_word-requires : goal.next_word-requires
 next_word-requires c =
-    (passed c.enter.ensures c.in-Past.is).inside
+    (passed c.enter.ensures c.in_ok-from.was).inside
 
-pub returns-in-Past : goal.returns-in-Past
-returns-in-Past c =
+pub returns : goal.returns
+returns c =
     let a = c.args in
     entry_reads (kind_is a.before) (next_word a.ends a.compared) _
-    (on (λ done. next_word a.ends a.compared) (passed c.enter.ensures c.in-Past.is)
+    (on (λ done. next_word a.ends a.compared) (passed c.enter.ensures c.in_ok-from.was)
     c.next_word.ensures)
 
-pub returns-in-Stuck : goal.returns-in-Stuck
-unfolding next_told next_place
-returns-in-Stuck c =
+pub returns-in_err-from : goal.returns-in_err-from
+returns-in_err-from c =
     let a = c.args in
-    entry_reads (kind_is a.before) (next_word a.ends a.compared) _
-    (off (λ done. next_word a.ends a.compared) (stopped c.enter.ensures c.in-Stuck.is))
+    value_up _ c.from_residual.ensures.1
+    (entry_reads (kind_is a.before) (next_word a.ends a.compared) _
+    (off (λ done. next_word a.ends a.compared) (stopped c.enter.ensures c.in_err-from.was)))

@@ -1,28 +1,29 @@
 -- `next_words::next_word` meets its contract.
 use borrow.Author.Rules.{rules}
 use native.Mathlib.Omega.{arith}
-use mathlib.Core.Path.{◌≡◌, refl, sym, ◌∙◌, ap}
+use mathlib.Core.Path.{refl, ◌∙◌}
 use Rattle.laws.specs.Characters.{first}
 use Rattle.parsing.specs.Reader.{rest}
 use Rattle.spelling.proofs.Bridging.{looks_first, looks_there}
 use Rattle.spelling.proofs.Answering.{by_left}
-use Rattle.spelling.specs.Answers.{next_told, next_place, next_word}
+use Rattle.numerals.specs.Answers.{read_place}
+use Rattle.spelling.specs.Answers.{value_told, next_word}
 use Rattle.spelling.proofs.Choosing.{next_other}
 use Rattle.next_words.proofs.next_word.Goals as goal
 
-pub next_rest-requires : goal.next_rest-requires
-next_rest-requires c =
+pub spelled-requires : goal.spelled-requires
+spelled-requires c =
     (looks_there _ _ _ c.byte-b.ensures 105 c.in-105.is (omega arith)).0
 
 pub returns-in-47 : goal.returns-in-47
-unfolding first rest next_told next_place
+unfolding first rest value_told read_place
 returns-in-47 c =
     let a = c.args in
     let there = looks_there _ _ _ c.byte-b.ensures 47 c.in-47.is (omega arith) in
     by_left (next_word a.ends a.compared) there.1 refl (record { means = refl; inside = there.0 })
 
 pub returns-in-42 : goal.returns-in-42
-unfolding first rest next_told next_place
+unfolding first rest value_told read_place
 returns-in-42 c =
     let a = c.args in
     let there = looks_there _ _ _ c.byte-b.ensures 42 c.in-42.is (omega arith) in
@@ -36,17 +37,17 @@ returns-in-105 c =
     (looks_there _ _ _ c.byte-b.ensures 105 c.in-105.is
     (omega arith)).1
     refl
-    c.next_rest.ensures
+    c.spelled.ensures
 
 pub returns-in-43 : goal.returns-in-43
-unfolding first rest next_told next_place
+unfolding first rest value_told read_place
 returns-in-43 c =
     let a = c.args in
     let there = looks_there _ _ _ c.byte-b.ensures 43 c.in-43.is (omega arith) in
     by_left (next_word a.ends a.compared) there.1 refl (record { means = refl; inside = there.0 })
 
 pub returns-in-45 : goal.returns-in-45
-unfolding first rest next_told next_place
+unfolding first rest value_told read_place
 returns-in-45 c =
     let a = c.args in
     let there = looks_there _ _ _ c.byte-b.ensures 45 c.in-45.is (omega arith) in

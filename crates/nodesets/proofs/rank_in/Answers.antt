@@ -1,6 +1,5 @@
 -- `marks::rank_in` meets its contract, item by item.
-use borrow.Author.Rules.{rules}
-use Rattle.nodesets.proofs.Nodes.{rank_node, rank_far, rank_integer, rank_truth}
+use Rattle.nodesets.proofs.Nodes.{rank_node, rank_far, rank_other}
 use Rattle.nodesets.proofs.rank_in.Goals as goal
 
 pub returns-then-rank-rows : goal.returns-then-rank-rows
@@ -13,8 +12,4 @@ returns-else-rank-rows c =
 
 pub returns-in-Integer : goal.returns-in-Integer
 returns-in-Integer c =
-    λ d e. rank_integer d c.in-Integer.is
-
-pub returns-in-Truth : goal.returns-in-Truth
-returns-in-Truth c =
-    λ d e. rank_truth d c.in-Truth.is
+    λ d e. rank_other d c.in-Integer.is

@@ -1,15 +1,13 @@
 -- `marks::write` meets its contract. The invariant: the n marked ranks below v stand as cells from `at` on, and nothing
 -- else has changed.
-use Prim.Native.Nat.{◌≤◌, ◌<◌, ◌+◌, ◌-◌, zero-le}
+use Prim.Native.Nat.{◌<◌, ◌+◌, zero-le}
 use mathlib.Core.Path.{◌≡◌, refl, ap, ◌∙◌}
-use mathlib.Core.Logic.{⊎_elim}
 use mathlib.Core.List.{map}
 use native.Mathlib.Omega.{arith}
 use lib.ListN.{length, set, length-set}
 use mir.Facts.{to_z-of_z}
 use mir.Syntax.{w64}
 use Rattle.cells.specs.Cell.{node_cell}
-use Rattle.nodesets.specs.Nodes.{ListedNodes}
 use Rattle.nodesets.proofs.Writing.{laid_begin, laid_skip, node_take, ranks_room}
 use Rattle.nodesets.proofs.write.Goals.{then-marks-v, else-marks-v}
 use Rattle.nodesets.proofs.write.Goals as goal
@@ -70,14 +68,6 @@ overflow_add-n c =
     ) in
     omega (arith, room)
 
-pub overflow_add-v : goal.overflow_add-v
-overflow_add-v c =
-    omega arith
-
-pub loop-v-smaller : goal.loop-v-smaller
-loop-v-smaller c =
-    omega arith
-
 pub loop-v-preserved : goal.loop-v-preserved
 loop-v-preserved c =
     let loop = c.loop-v in
@@ -92,7 +82,8 @@ loop-v-preserved c =
           ) in
           let placed : c.if-marks-v.work ≡ set loop.work (args.at + loop.n) (node_cell loop.v) =
           w.work-is
-          ∙ ap (set loop.work (args.at + loop.n)) (to_z-of_z {w = w64} (record { sfits = w.node_cell.type_inv }) ∙ w.node_cell.ensures) in (
+          ∙ ap (set loop.work (args.at + loop.n))
+          (to_z-of_z {w = w64} (record { sfits = w.node_cell.type_inv }) ∙ w.node_cell.ensures) in (
             omega arith,
             ap length placed ∙ length-set loop.work (args.at + loop.n) (node_cell loop.v) ∙ loop.invariant.1,
             rw (placed, w.n-is)
@@ -102,7 +93,8 @@ loop-v-preserved c =
       | else-marks-v w ↦ (
         omega arith,
         ap length w.work-is ∙ loop.invariant.1,
-        rw (w.work-is, w.n-is) (laid_skip (map node_cell) _ _ _ loop.v loop.n loop.work loop.invariant.2 w.if-marks-v.false),
+        rw (w.work-is, w.n-is)
+            (laid_skip (map node_cell) _ _ _ loop.v loop.n loop.work loop.invariant.2 w.if-marks-v.false),
       )
     ]
 

@@ -1,9 +1,8 @@
 -- `marks::write_rows` meets its contract. The invariant: the rows of the n marked ranks below v stand from `at` on, and
 -- nothing else has changed.
-use Prim.Native.Nat.{◌≤◌, ◌<◌, ◌+◌, ◌*◌, ◌-◌, zero-le}
+use Prim.Native.Nat.{◌<◌, ◌+◌, ◌*◌, zero-le}
 use mathlib.Core.Path.{◌≡◌, refl, ap, ◌∙◌}
 use mathlib.Core.List.{List}
-use mathlib.Core.Logic.{⊎_elim}
 use native.Mathlib.Omega.{arith}
 use lib.IntN.{ℤ}
 use lib.ListN.{length, set, length-set}
@@ -13,7 +12,7 @@ use mir.Val.{of_z, to_z}
 use Rattle.cells.specs.Cell.{node_cell}
 use Rattle.laws.specs.Rows.{laid}
 use Rattle.nodesets.specs.Nodes.{ranks}
-use Rattle.nodesets.specs.Nodes.{rows_of, ListedNodes}
+use Rattle.nodesets.specs.Nodes.{rows_of}
 use Rattle.nodesets.proofs.Writing.{rows_begin, laid_skip, row_take, ranks_room}
 use Rattle.nodesets.proofs.write_rows.Goals.{then-marks-v, else-marks-v}
 use Rattle.nodesets.proofs.write_rows.Goals as goal
@@ -140,14 +139,6 @@ overflow_add-n c =
     ) in
     omega (arith, room)
 
-pub overflow_add-v : goal.overflow_add-v
-overflow_add-v c =
-    omega arith
-
-pub loop-v-smaller : goal.loop-v-smaller
-loop-v-smaller c =
-    omega arith
-
 pub loop-v-preserved : goal.loop-v-preserved
 loop-v-preserved c =
     let loop = c.loop-v in
@@ -164,7 +155,8 @@ loop-v-preserved c =
           let first = set loop.work (args.at + 2 * loop.n) x in
           let placed : c.if-marks-v.work ≡ set first (args.at + 2 * loop.n + 1) (node_cell loop.v) =
           w.work-is
-          ∙ ap (set first (args.at + 2 * loop.n + 1)) (to_z-of_z {w = w64} (record { sfits = w.node_cell.type_inv }) ∙ w.node_cell.ensures) in (
+          ∙ ap (set first (args.at + 2 * loop.n + 1))
+          (to_z-of_z {w = w64} (record { sfits = w.node_cell.type_inv }) ∙ w.node_cell.ensures) in (
             omega arith,
             ap length placed
                 ∙ length-set first (args.at + 2 * loop.n + 1) (node_cell loop.v)

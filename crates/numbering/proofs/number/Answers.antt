@@ -48,7 +48,8 @@ lay-requires c =
     low _ _ _ f.key_columns _ _ f.inside.0 f.inside.1 f.inside.3 some-row in
     let few-here : c.args.s.rows ≤ 32768 = let f = c.requires in
     few _ _ _ f.key_columns _ _ f.inside.0 f.inside.1 f.inside.3 c.if-room-at.false in
-    let room-here : let a = c.args in a.at + a.s.rows * (a.s.width + 1) ≤ a.room = omega (arith, c.if-room-at.false, c.requires.inside) in
+    let room-here : let a = c.args in a.at + a.s.rows * (a.s.width + 1) ≤ a.room =
+    omega (arith, c.if-room-at.false, c.requires.inside) in
     let f = c.requires in
     let few = few-here in
     record {
@@ -67,7 +68,8 @@ lay-requires c =
 pub returns : goal.returns
 unfolding Inside
 returns c =
-    let room-here : let a = c.args in a.at + a.s.rows * (a.s.width + 1) ≤ a.room = omega (arith, c.if-room-at.false, c.requires.inside) in
+    let room-here : let a = c.args in a.at + a.s.rows * (a.s.width + 1) ≤ a.room =
+    omega (arith, c.if-room-at.false, c.requires.inside) in
     owed_laid _ _ _ c.args.keys _ _ c.requires.key_columns _ _ (omega (arith, c.requires)) room-here
     c.arrange.ensures
     c.lay.ensures

@@ -4,8 +4,7 @@ use Prim.Native.Nat.{◌<◌}
 use mathlib.Core.Path.{sym, ◌∙◌}
 use native.Mathlib.Omega.{arith}
 use lib.ListN.{length}
-use borrow.Author.Rules.{rules}
-use Rattle.numerals.specs.Answers.{told_numeral, numeral_place}
+use Rattle.numerals.specs.Answers.{told_numeral, read_place}
 use Rattle.numerals.proofs.Turns.{no_zero, zero_more, zero_alone}
 use Rattle.numerals.proofs.canonical.Goals as goal
 
@@ -22,7 +21,7 @@ overflow_add-next c =
     omega (arith, within)
 
 pub returns-then-is_digit : goal.returns-then-is_digit
-unfolding told_numeral numeral_place
+unfolding told_numeral read_place
 returns-then-is_digit c =
     let within : c.args.at < length c.args.text.now = (c.byte.ensures.there (omega arith)).0 in
     let h = within in (
@@ -33,7 +32,7 @@ returns-then-is_digit c =
     )
 
 pub returns : goal.returns
-unfolding told_numeral numeral_place
+unfolding told_numeral read_place
 returns c =
     let within : c.args.at < length c.args.text.now = (c.byte.ensures.there (omega arith)).0 in
     let h = within in (

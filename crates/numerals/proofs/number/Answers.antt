@@ -1,14 +1,12 @@
 -- `numerals::number` meets its contract: stuck where no digit is, else what the digits give.
 use mathlib.Core.Path.{sym, ◌∙◌}
 use native.Mathlib.Omega.{arith}
-use borrow.Author.Rules.{rules}
-use borrow.Author.Tests.{not-true, not-false}
-use Rattle.numerals.specs.Answers.{told_numeral, numeral_place}
+use Rattle.numerals.specs.Answers.{told_numeral, read_place}
 use Rattle.numerals.proofs.Turns.{number_on, number_off}
 use Rattle.numerals.proofs.number.Goals as goal
 
 pub returns-then-not-is_digit : goal.returns-then-not-is_digit
-unfolding told_numeral numeral_place
+unfolding told_numeral read_place
 returns-then-not-is_digit c = (
   sym
       (number_off _ _ _ c.byte.ensures _

@@ -1,18 +1,24 @@
 -- `openings::call` meets its contract.
-use borrow.Author.Rules.{rules}
 use mathlib.Core.Path.{◌∙◌}
 use Rattle.spelling.proofs.Answering.{passed, stopped}
-use Rattle.operands.proofs.Follows.{operand_stuck, halts_by, past_then, off_then}
+use Rattle.operands.proofs.Follows.{halts_by, past_then, off_then}
 use Rattle.openings.specs.Opened.{call_record}
-use Rattle.openings.proofs.Comes.{opens_whole, opens_call, call_at, call_rest}
+use Rattle.openings.proofs.Comes.{opens_up, opens_call, call_at, call_rest}
 use Rattle.openings.proofs.call.Goals as goal
 
-pub returns-in-Past : goal.returns-in-Past
-returns-in-Past c =
+pub returns-in_err-from : goal.returns-in_err-from
+returns-in_err-from c =
     λ rd d.
     let a = c.args in
-    let done = passed c.opened.ensures
-    c.in-Past.is in
+    opens_up rd d _ c.from_residual.ensures.1
+    (halts_by (call_at rd d (call_record a.callee) a.rest.now _)
+    (off_then (call_rest rd d (call_record a.callee)) (stopped c.opened.ensures c.in_err-from.was)))
+
+pub returns : goal.returns
+returns c =
+    λ rd d.
+    let a = c.args in
+    let done = passed c.opened.ensures c.in_ok-from.was in
     opens_call rd d
     (record {
       mark = call_record a.callee;
@@ -22,13 +28,3 @@ returns-in-Past c =
       inside = done.inside;
       added = c.add_call-to.ensures;
     })
-
-pub returns-in-Stuck : goal.returns-in-Stuck
-returns-in-Stuck c =
-    λ rd d.
-    let a = c.args in
-    opens_whole rd d
-    (operand_stuck _
-    (halts_by (call_at rd d (call_record a.callee) a.rest.now _)
-    (off_then (call_rest rd d (call_record a.callee))
-    (stopped c.opened.ensures c.in-Stuck.is))))

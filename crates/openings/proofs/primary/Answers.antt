@@ -1,12 +1,12 @@
 -- `openings::primary` meets its contract.
 use borrow.Author.Rules.{rules}
 use native.Mathlib.Omega.{arith}
-use mathlib.Core.Path.{◌≡◌, refl, sym, ◌∙◌, ap}
+use mathlib.Core.Path.{◌≡◌, refl, ◌∙◌}
 use Rattle.parsing.specs.Reader.{rest, read_primary}
 use Rattle.laws.specs.Characters.{first, is_digit}
 use Rattle.spelling.proofs.Bridging.{looks_first, looks_there}
-use Rattle.operands.proofs.Follows.{operand_stuck}
-use Rattle.openings.proofs.Comes.{opens_by, opens_left, opens_whole, digit_on, digit_seen, primary_other}
+use Rattle.openings.proofs.Comes.{opens_by, opens_left, whole_read, opens_whole, opens_none}
+use Rattle.openings.proofs.Comes.{digit_on, digit_seen, primary_other}
 use Rattle.openings.proofs.primary.Goals as goal
 
 pub returns-then-is_digit : goal.returns-then-is_digit
@@ -17,7 +17,8 @@ returns-then-is_digit c =
     (digit_on rd a.parens _
     (digit_seen _ _ _ c.byte-b.ensures _
     c.is_digit.ensures ∙ c.if-is_digit.true))
-    (opens_whole rd a.parens c.number.ensures)
+    (let whole : c.map.result ≡ whole_read c.number.result = search rules in
+    rw whole (opens_whole rd a.parens _ c.number.ensures))
 
 pub number-requires-in-45 : goal.number-requires-in-45
 number-requires-in-45 c = (
@@ -92,7 +93,8 @@ returns-in-45 c =
     opens_left _ (read_primary rd a.parens)
     (looks_there _ _ _ c.byte-b.ensures 45
     c.in-45.is (omega arith)).1 refl
-    (opens_whole rd a.parens c.number-in-45.ensures)
+    (let whole : c.map-in-45.result ≡ whole_read c.number-in-45.result = search rules in
+    rw whole (opens_whole rd a.parens _ c.number-in-45.ensures))
 
 pub returns-in-36 : goal.returns-in-36
 unfolding first rest is_digit
@@ -102,7 +104,8 @@ returns-in-36 c =
     opens_left _ (read_primary rd a.parens)
     (looks_there _ _ _ c.byte-b.ensures 36
     c.in-36.is (omega arith)).1 refl
-    (opens_whole rd a.parens c.variable.ensures)
+    (let whole : c.map-in-36.result ≡ whole_read c.variable.result = search rules in
+    rw whole (opens_whole rd a.parens _ c.variable.ensures))
 
 pub returns-in-116 : goal.returns-in-116
 unfolding first rest is_digit
@@ -112,7 +115,8 @@ returns-in-116 c =
     opens_left _ (read_primary rd a.parens)
     (looks_there _ _ _ c.byte-b.ensures 116
     c.in-116.is (omega arith)).1 refl
-    (opens_whole rd a.parens c.truth.ensures)
+    (let whole : c.map-in-116.result ≡ whole_read c.truth.result = search rules in
+    rw whole (opens_whole rd a.parens _ c.truth.ensures))
 
 pub returns-in-102 : goal.returns-in-102
 unfolding first rest is_digit
@@ -122,7 +126,8 @@ returns-in-102 c =
     opens_left _ (read_primary rd a.parens)
     (looks_there _ _ _ c.byte-b.ensures 102
     c.in-102.is (omega arith)).1 refl
-    (opens_whole rd a.parens c.truth-in-102.ensures)
+    (let whole : c.map-in-102.result ≡ whole_read c.truth-in-102.result = search rules in
+    rw whole (opens_whole rd a.parens _ c.truth-in-102.ensures))
 
 pub returns-in-40 : goal.returns-in-40
 unfolding first rest is_digit
@@ -141,7 +146,8 @@ returns-in-114 c =
     opens_left _ (read_primary rd a.parens)
     (looks_there _ _ _ c.byte-b.ensures 114
     c.in-114.is (omega arith)).1 refl
-    (opens_whole rd a.parens c.root.ensures)
+    (let whole : c.map-in-114.result ≡ whole_read c.root.result = search rules in
+    rw whole (opens_whole rd a.parens _ c.root.ensures))
 
 pub returns-in-99 : goal.returns-in-99
 unfolding first rest is_digit
@@ -167,8 +173,7 @@ pub returns-in_default : goal.returns-in_default
 returns-in_default c =
     λ rd.
     let a = c.args in
-    opens_whole rd a.parens
-    (operand_stuck _
+    opens_none rd a.parens
     (record {
       means =
           primary_other rd a.parens _ _ (looks_first _ _ _ c.byte-b.ensures)
@@ -176,4 +181,4 @@ returns-in_default c =
           ∙ c.if-is_digit.false)
           search rules;
       inside = c.requires.0;
-    }))
+    })

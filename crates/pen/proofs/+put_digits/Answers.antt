@@ -3,8 +3,6 @@
 use native.Mathlib.Omega.{arith}
 use Rattle.pen.proofs.Putting.{pens_none, pens_more, pens_as}
 use Rattle.pen.proofs.Digits.{digits_none, digits_one, digits_more, digits_end}
-use borrow.Author.Rules.{rules}
-use Prim.Native.Nat.{ℕ, ◌<◌}
 use Rattle.pen.proofs.+put_digits.Goals as goal
 
 pub returns-then-left-eq0 : goal.returns-then-left-eq0

@@ -1,5 +1,4 @@
 -- `put` meets its contract: past the end nothing changes.
-use borrow.Author.Rules.{rules}
 use Rattle.pen.proofs.Putting.{pens_byte, pens_past}
 use Rattle.pen.proofs.put.Goals as goal
 

@@ -1,7 +1,6 @@
 -- `put2` meets its contract: the higher byte, then the lower.
 use Rattle.cells.specs.Bytes.{bytes_of}
 use Rattle.pen.proofs.Putting.{pens_more}
-use borrow.Author.Rules.{rules}
 use Rattle.pen.proofs.put2.Goals as goal
 
 pub returns : goal.returns

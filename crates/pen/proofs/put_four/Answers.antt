@@ -1,6 +1,5 @@
 -- `put_four` meets its contract.
 use Rattle.pen.proofs.Putting.{pens_more}
-use borrow.Author.Rules.{rules}
 use Rattle.pen.proofs.put_four.Goals as goal
 
 pub returns : goal.returns

@@ -1,6 +1,5 @@
 -- `put_three` meets its contract.
 use Rattle.pen.proofs.Putting.{pens_more}
-use borrow.Author.Rules.{rules}
 use Rattle.pen.proofs.put_three.Goals as goal
 
 pub returns : goal.returns

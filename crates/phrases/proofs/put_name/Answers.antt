@@ -1,10 +1,6 @@
 -- `put_name` meets its contract: the letter, and the number.
-use mathlib.Core.Path.{ap}
-use Prim.Native.Nat.{ℕ}
-use mathlib.Core.List.{List, ◌∷◌}
 use Rattle.grammar.specs.Written.{test_text}
-use Rattle.pen.proofs.Putting.{pens_as, pens_more}
-use borrow.Author.Rules.{rules}
+use Rattle.pen.proofs.Putting.{pens_more}
 use Rattle.phrases.proofs.put_name.Goals as goal
 
 pub returns : goal.returns

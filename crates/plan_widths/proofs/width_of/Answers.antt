@@ -1,5 +1,4 @@
 -- `width_of` meets its contract: each answer is that of `width_by`.
-use borrow.Author.Rules.{rules}
 use native.Mathlib.Omega.{arith}
 use Rattle.plan_widths.proofs.Ordered.{width_none, no_first, no_second, unsuited, suited}
 use Rattle.plan_widths.proofs.width_of.Goals as goal
@@ -16,14 +15,14 @@ returns-then-n-t c =
     let a = c.args in
     let x = c.tables in
     no_first a.plan.now a.widths.now a.n c.requires.1 a.operator c.requires.0 x.result
-    x.ensures c.in-Of.t c.in-Of.u c.in-Of.is c.if-n-t.true
+    x.ensures c.in-Some.t c.in-Some.u c.in-Some.is c.if-n-t.true
 
 pub returns-then-n-u : goal.returns-then-n-u
 returns-then-n-u c =
     let a = c.args in
     let x = c.tables in
     no_second a.plan.now a.widths.now a.n c.requires.1 a.operator c.requires.0 x.result
-    x.ensures c.in-Of.t c.in-Of.u c.in-Of.is
+    x.ensures c.in-Some.t c.in-Some.u c.in-Some.is
     (λ h. omega (arith, c.if-n-t.false)) c.if-n-u.true
 
 pub returns-then-suits : goal.returns-then-suits
@@ -34,7 +33,7 @@ returns-then-suits c =
     let v = c.byte-v in
     let f = c.suits in
     suited a.plan.now a.widths.now a.n c.requires.1 a.operator c.requires.0 x.result x.ensures
-    c.in-Of.t c.in-Of.u c.in-Of.is
+    c.in-Some.t c.in-Some.u c.in-Some.is
     (λ h. omega (arith, c.if-n-t.false))
     (λ h. omega (arith, c.if-n-u.false))
     w.result v.result w.ensures.0 v.ensures.0 f.result f.ensures c.if-suits.true
@@ -48,7 +47,7 @@ returns-else-suits c =
     let v = c.byte-v in
     let f = c.suits in
     unsuited a.plan.now a.widths.now a.n c.requires.1 a.operator c.requires.0 x.result
-    x.ensures c.in-Of.t c.in-Of.u c.in-Of.is
+    x.ensures c.in-Some.t c.in-Some.u c.in-Some.is
     (λ h. omega (arith, c.if-n-t.false))
     (λ h. omega (arith, c.if-n-u.false))
     w.result v.result w.ensures.0 v.ensures.0 f.result f.ensures c.if-suits.false

@@ -1,11 +1,6 @@
 -- `operators` meets its contract. The loop's invariant: what is left of the plan, after the operators done, gives what
 -- the whole gives, and the first n lent bytes are the widths of their tables. The measure is what is left of the bytes.
-use Prim.Native.Nat.{◌-◌}
-use mathlib.Core.Path.{sym, ◌∙◌}
 use native.Mathlib.Omega.{arith}
-use borrow.Author.Rules.{rules}
-use lib.ListN.{length}
-use Rattle.plans.specs.Walk.{Checking}
 use Rattle.cells.specs.Bytes.{Bytes}
 use Rattle.plan_records.proofs.Fields.{operator_ends}
 use Rattle.plans.proofs.Ending.{checking_start, checking_excess, checking_unread, checking_unfit, checking_small}
@@ -20,21 +15,23 @@ loop-at-init c =
 
 pub returns-then-full : goal.returns-then-full
 returns-then-full c =
-    checking_excess c.loop-at.invariant c.loop-at-test.true c.if-full.true
+    rw c.unsound.ensures
+    (checking_excess c.loop-at.invariant c.loop-at-test.true c.if-full.true)
 
 pub returns-in_default : goal.returns-in_default
 returns-in_default c =
     let a = c.args in
     let r = c.read in
-    checking_unread c.loop-at.invariant c.loop-at-test.true
+    rw c.unsound-in_default.ensures
+    (checking_unread c.loop-at.invariant c.loop-at-test.true
     c.if-full.false
-    (unread a.plan.now c.loop-at.at r.result r.ensures c.in_default.is)
+    (unread a.plan.now c.loop-at.at r.result r.ensures c.in_default.is))
 
 pub width_of-requires : goal.width_of-requires
 width_of-requires c =
     let a = c.args in
     let r = c.read in (
-      found_stands a.plan.now c.loop-at.at r.result r.ensures c.in-Sound.found c.in-Sound.is,
+      found_stands a.plan.now c.loop-at.at r.result r.ensures c.in-Some.found c.in-Some.is,
       checking_room c.loop-at.invariant,
     )
 
@@ -43,11 +40,12 @@ returns-in_default-width_of c =
     let a = c.args in
     let r = c.read in
     let x = c.width_of in
-    let p = found a.plan.now c.loop-at.at r.result r.ensures c.in-Sound.found c.in-Sound.is in
-    checking_unfit c.loop-at.invariant
+    let p = found a.plan.now c.loop-at.at r.result r.ensures c.in-Some.found c.in-Some.is in
+    rw c.unsound-in_default-width_of.ensures
+    (checking_unfit c.loop-at.invariant
     c.loop-at-test.true
     c.if-full.false
-    _ _ p x.result x.ensures c.in_default-width_of.is
+    _ _ p x.result x.ensures c.in_default-width_of.is)
 
 pub overflow_cast-widths : goal.overflow_cast-widths
 overflow_cast-widths c =
@@ -55,13 +53,13 @@ overflow_cast-widths c =
     let r = c.read in
     let x = c.width_of in
     let bytes : Bytes a.plan.now = λ i. omega (arith, c.type_inv.plan i) in
-    let p = found a.plan.now c.loop-at.at r.result r.ensures c.in-Sound.found c.in-Sound.is in
+    let p = found a.plan.now c.loop-at.at r.result r.ensures c.in-Some.found c.in-Some.is in
     omega (
       arith,
       checking_small c.loop-at.invariant
           c.loop-at-test.true
           c.if-full.false
-          _ _ p x.result x.ensures bytes c.in-Is.w c.in-Is.is,
+          _ _ p x.result x.ensures bytes c.in-Some-width_of.w c.in-Some-width_of.is,
     )
 
 pub bounds-widths-n : goal.bounds-widths-n
@@ -79,7 +77,7 @@ loop-at-smaller c =
     let a = c.args in
     let r = c.read in
     let bytes : Bytes a.plan.now = λ i. omega (arith, c.type_inv.plan i) in
-    let p = found a.plan.now c.loop-at.at r.result r.ensures c.in-Sound.found c.in-Sound.is in
+    let p = found a.plan.now c.loop-at.at r.result r.ensures c.in-Some.found c.in-Some.is in
     let e = operator_ends a.plan.now bytes c.loop-at.at _ p in
     omega (arith, e.after, e.within)
 
@@ -89,15 +87,16 @@ loop-at-preserved c =
     let r = c.read in
     let x = c.width_of in
     let bytes : Bytes a.plan.now = λ i. omega (arith, c.type_inv.plan i) in
-    let p = found a.plan.now c.loop-at.at r.result r.ensures c.in-Sound.found c.in-Sound.is in
+    let p = found a.plan.now c.loop-at.at r.result r.ensures c.in-Some.found c.in-Some.is in
     checking_on c.loop-at.invariant
     c.loop-at-test.true
     c.if-full.false
-    _ _ p x.result x.ensures bytes c.in-Is.w c.in-Is.is
+    _ _ p x.result x.ensures bytes c.in-Some-width_of.w c.in-Some-width_of.is
 
 pub returns-then-n-eq0 : goal.returns-then-n-eq0
 returns-then-n-eq0 c =
-    checking_none c.loop-at.invariant c.loop-at-test.false c.if-n-eq0.true
+    rw c.unsound-then-n-eq0.ensures
+    (checking_none c.loop-at.invariant c.loop-at-test.false c.if-n-eq0.true)
 
 pub bounds-widths-n-2 : goal.bounds-widths-n-2
 bounds-widths-n-2 c =
@@ -110,5 +109,6 @@ returns-then-widths-n-eq3 c =
 
 pub returns-else-widths-n-eq3 : goal.returns-else-widths-n-eq3
 returns-else-widths-n-eq3 c =
-    checking_other c.loop-at.invariant
-    c.loop-at-test.false c.if-n-eq0.false c.if-widths-n-eq3.false
+    rw c.unsound-else-widths-n-eq3.ensures
+    (checking_other c.loop-at.invariant
+    c.loop-at-test.false c.if-n-eq0.false c.if-widths-n-eq3.false)

@@ -1,17 +1,8 @@
 -- `operators` meets its contract. The loop's invariant: what is left of the plan, after the operators done, gives what
 -- the whole gives, and the first n lent bytes are the widths of their tables. The measure is what is left of the bytes.
 use Prim.Native.Nat.{◌-◌}
-use mathlib.Core.Path.{sym, ◌∙◌}
-use native.Mathlib.Omega.{arith}
-use borrow.Author.Rules.{rules}
 use lib.ListN.{length}
 use Rattle.plans.specs.Walk.{Checking}
-use Rattle.cells.specs.Bytes.{Bytes}
-use Rattle.plan_records.proofs.Fields.{operator_ends}
-use Rattle.plans.proofs.Ending.{checking_start, checking_excess, checking_unread, checking_unfit, checking_small}
-use Rattle.plans.proofs.Ending.{checking_room, checking_place}
-use Rattle.plans.proofs.Ending.{checking_on, checking_none, checking_three, checking_other, unread, found}
-use Rattle.plans.proofs.Ending.{found_stands}
 use Rattle.plans.proofs.operators.Given as goal
 
 abbrev pub invariant-loop-at : goal.invariant-loop-at

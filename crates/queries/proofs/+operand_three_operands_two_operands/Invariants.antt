@@ -1,5 +1,5 @@
 -- The query check's recursion follows `walk`: the depth left falls from a record to its operands.
-use Prim.Native.Nat.{ℕ, ◌+◌, ◌*◌}
+use Prim.Native.Nat.{◌+◌, ◌*◌}
 use Rattle.queries.proofs.+operand_three_operands_two_operands.Given as goal
 
 abbrev pub decreases-operand : goal.decreases-operand

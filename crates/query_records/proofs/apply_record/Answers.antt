@@ -1,15 +1,16 @@
 -- `apply_record` meets its contract: cut, by `fits`; the number of the function by `function_of`.
-use mathlib.Core.Path.{◌≡◌}
+use Rattle.laws.specs.Attempt.{tried}
+use Rattle.codes.proofs.Numbers.{tried_read}
+use mathlib.Core.Path.{◌≡◌, ◌∙◌}
 use mathlib.Core.Bool.{true}
 use native.Mathlib.Omega.{arith}
-use borrow.Author.Rules.{rules}
 use Rattle.cells.specs.Bytes.{fits}
 use Prim.Native.Nat.{◌+◌, ◌≤◌}
 use lib.ListN.{length}
 use Rattle.query_records.specs.Arms.{apply_record}
 use Rattle.cells.proofs.Cut.{fits_cut, fits_room, fits_there}
 use Rattle.query_records.proofs.Arms.{means_cut, apply_none, apply_means}
-use mathlib.Core.Path.{ap}
+use mathlib.Core.Path.{ap, ◌∙◌}
 use mathlib.Core.Bool.{not}
 use Rattle.query_records.proofs.apply_record.Goals as goal
 
@@ -41,22 +42,23 @@ bounds-query-at c =
     fits_room f.result a.query.now a.at 3 f.ensures (ap not c.if-not-fits.false) in
     omega (arith, room)
 
-pub returns-in_default : goal.returns-in_default
-returns-in_default c =
+pub returns-in_err-f : goal.returns-in_err-f
+returns-in_err-f c =
     let there : fits c.args.query.now c.args.at 3 ≡ true = let a = c.args in
     let f = c.fits in
     fits_there f.result a.query.now a.at 3 f.ensures (ap not c.if-not-fits.false) in
     let a = c.args in
-    let x = c.function_of in
-    apply_none a.query.now a.at there x.result x.ensures c.in_default.is
+    let x = c.ok in
+    let e = ap tried x.ensures.value ∙ tried_read c.try_from.result ∙ c.try_from.ensures in
+    rw c.from_residual.ensures (apply_none a.query.now a.at there x.result e c.in_err-f.was)
 
 pub returns : goal.returns
 returns c =
     let there : fits c.args.query.now c.args.at 3 ≡ true = let a = c.args in
     let f = c.fits in
     fits_there f.result a.query.now a.at 3 f.ensures (ap not c.if-not-fits.false) in
-    let x = c.function_of in
     let a = c.args in
-    let f = c.in-Is in
-    apply_means a.query.now a.at there x.result x.ensures f.f c.sound.result f.is
-    c.sound.ensures
+    let x = c.ok in
+    let e = ap tried x.ensures.value ∙ tried_read c.try_from.result ∙ c.try_from.ensures in
+    let f = c.in_ok-f in
+    apply_means a.query.now a.at there x.result e f.f c.sound.result f.was c.sound.ensures

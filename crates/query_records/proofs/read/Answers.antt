@@ -13,6 +13,8 @@ use Rattle.query_records.specs.Arms.{step_record}
 use Rattle.query_records.specs.Decoded.{record_of}
 use Rattle.cells.proofs.Cut.{fits_cut, fits_room, fits_there}
 use Rattle.query_records.proofs.Arms.{means_sized, means_mark, means_none}
+use Rattle.std.specs.Prelude.{None}
+use Rattle.query_records.proofs.Arms.{variable_room, variable_fails, variable_means}
 use Rattle.query_records.proofs.Arms.{record_cut, record_gap, record_none}
 use mathlib.Core.Path.{ap}
 use mathlib.Core.Bool.{not}
@@ -79,15 +81,6 @@ returns-in-20818 c =
     m.ensures.0 c.in-20818.is
     c.root_record.ensures
 
-pub returns-in-20822 : goal.returns-in-20822
-unfolding Query.record_of variable_record
-returns-in-20822 c =
-    let a = c.args in
-    let m = c.word2-mark in
-    means_mark a.query.now a.at c.variable_record.result m.result 0x5156
-    m.ensures.0 c.in-20822.is
-    c.variable_record.ensures
-
 pub returns-in-20819 : goal.returns-in-20819
 unfolding Query.record_of record_of
 returns-in-20819 c =
@@ -99,24 +92,6 @@ returns-in-20819 c =
     means_mark a.query.now a.at c.sound-in-20819.result m.result 0x5153 m.ensures.0 c.in-20819.is
     (means_sized a.query.now a.at 2 _ c.sound-in-20819.result Record.Sequence
     c.sound-in-20819.ensures there tt refl)
-
-pub returns-in-20820 : goal.returns-in-20820
-unfolding Query.record_of variable_record
-returns-in-20820 c =
-    let a = c.args in
-    let m = c.word2-mark in
-    means_mark a.query.now a.at c.let_record.result m.result 0x5154
-    m.ensures.0 c.in-20820.is
-    c.let_record.ensures
-
-pub returns-in-20806 : goal.returns-in-20806
-unfolding Query.record_of variable_record
-returns-in-20806 c =
-    let a = c.args in
-    let m = c.word2-mark in
-    means_mark a.query.now a.at c.for_record.result m.result 0x5146
-    m.ensures.0 c.in-20806.is
-    c.for_record.ensures
 
 pub returns-in-20809 : goal.returns-in-20809
 unfolding Query.record_of record_of
@@ -185,3 +160,90 @@ returns-in-0-to-20801-2 c =
     let m = c.word2-mark in
     means_none a.query.now a.at _
     (rw (← m.ensures.0) (record_none a.query.now a.at m.result (search rules)))
+
+pub overflow_add-at : goal.overflow_add-at
+overflow_add-at c =
+    let a = c.args in
+    let x = c.variable in
+    let v = c.in_ok-variable-in-20822 in
+    omega (arith, variable_room a.query.now a.at x.result x.ensures v.field-0 v.was)
+
+pub returns-in_err-variable-in-20822 : goal.returns-in_err-variable-in-20822
+unfolding Query.record_of variable_record
+returns-in_err-variable-in-20822 c =
+    let a = c.args in
+    let m = c.word2-mark in
+    let x = c.variable in
+    rw c.from_residual.ensures
+    (means_mark a.query.now a.at None m.result 0x5156 m.ensures.0 c.in-20822.is
+    (variable_fails a.query.now a.at Query.variable x.result x.ensures c.in_err-variable-in-20822.was))
+
+pub returns-in_ok-variable-in-20822 : goal.returns-in_ok-variable-in-20822
+unfolding Query.record_of variable_record record_of
+returns-in_ok-variable-in-20822 c =
+    let a = c.args in
+    let m = c.word2-mark in
+    let x = c.variable in
+    let v = c.in_ok-variable-in-20822 in
+    let s = c.sound-in-20822 in
+    means_mark a.query.now a.at s.result m.result 0x5156 m.ensures.0 c.in-20822.is
+    (variable_means a.query.now a.at Query.variable x.result x.ensures
+    s.result (Record.Variable v.field-0) v.field-0 s.ensures v.was tt refl)
+
+pub overflow_add-at-in-20820 : goal.overflow_add-at-in-20820
+overflow_add-at-in-20820 c =
+    let a = c.args in
+    let x = c.variable-in-20820 in
+    let v = c.in_ok-variable-in-20820 in
+    omega (arith, variable_room a.query.now a.at x.result x.ensures v.field-0 v.was)
+
+pub returns-in_err-variable-in-20820 : goal.returns-in_err-variable-in-20820
+unfolding Query.record_of variable_record
+returns-in_err-variable-in-20820 c =
+    let a = c.args in
+    let m = c.word2-mark in
+    let x = c.variable-in-20820 in
+    rw c.from_residual-in_err-variable-in-20820.ensures
+    (means_mark a.query.now a.at None m.result 0x5154 m.ensures.0 c.in-20820.is
+    (variable_fails a.query.now a.at Query.letting x.result x.ensures c.in_err-variable-in-20820.was))
+
+pub returns-in_ok-variable-in-20820 : goal.returns-in_ok-variable-in-20820
+unfolding Query.record_of variable_record record_of
+returns-in_ok-variable-in-20820 c =
+    let a = c.args in
+    let m = c.word2-mark in
+    let x = c.variable-in-20820 in
+    let v = c.in_ok-variable-in-20820 in
+    let s = c.sound-in-20820 in
+    means_mark a.query.now a.at s.result m.result 0x5154 m.ensures.0 c.in-20820.is
+    (variable_means a.query.now a.at Query.letting x.result x.ensures
+    s.result (Record.Let v.field-0) v.field-0 s.ensures v.was tt refl)
+
+pub overflow_add-at-in-20806 : goal.overflow_add-at-in-20806
+overflow_add-at-in-20806 c =
+    let a = c.args in
+    let x = c.variable-in-20806 in
+    let v = c.in_ok-variable-in-20806 in
+    omega (arith, variable_room a.query.now a.at x.result x.ensures v.field-0 v.was)
+
+pub returns-in_err-variable-in-20806 : goal.returns-in_err-variable-in-20806
+unfolding Query.record_of variable_record
+returns-in_err-variable-in-20806 c =
+    let a = c.args in
+    let m = c.word2-mark in
+    let x = c.variable-in-20806 in
+    rw c.from_residual-in_err-variable-in-20806.ensures
+    (means_mark a.query.now a.at None m.result 0x5146 m.ensures.0 c.in-20806.is
+    (variable_fails a.query.now a.at Query.for x.result x.ensures c.in_err-variable-in-20806.was))
+
+pub returns-in_ok-variable-in-20806 : goal.returns-in_ok-variable-in-20806
+unfolding Query.record_of variable_record record_of
+returns-in_ok-variable-in-20806 c =
+    let a = c.args in
+    let m = c.word2-mark in
+    let x = c.variable-in-20806 in
+    let v = c.in_ok-variable-in-20806 in
+    let s = c.sound-in-20806 in
+    means_mark a.query.now a.at s.result m.result 0x5146 m.ensures.0 c.in-20806.is
+    (variable_means a.query.now a.at Query.for x.result x.ensures
+    s.result (Record.For v.field-0) v.field-0 s.ensures v.was tt refl)

@@ -2,7 +2,6 @@
 use mathlib.Core.Path.{◌≡◌}
 use mathlib.Core.Bool.{true}
 use native.Mathlib.Omega.{arith}
-use borrow.Author.Rules.{rules}
 use Rattle.cells.specs.Bytes.{byte_at, fits}
 use Prim.Native.Nat.{◌+◌, ◌≤◌}
 use lib.ListN.{length}
@@ -46,10 +45,6 @@ bounds-query-at c =
     fits_room f.result a.query.now a.at 3 f.ensures (ap not c.if-not-fits.false) in
     omega (arith, room)
 
-pub overflow_cast-k : goal.overflow_cast-k
-overflow_cast-k c =
-    omega (arith, c.type_inv.query (c.args.at + 2))
-
 pub returns-in-0 : goal.returns-in-0
 unfolding root_record fragment_of provided attempt
 returns-in-0 c =
@@ -67,6 +62,5 @@ returns-in-1-to-255 c =
     fits_there f.result a.query.now a.at 3 f.ensures (ap not c.if-not-fits.false) in
     let a = c.args in
     let b = byte_at a.query.now (a.at + 2) in
-    means_sized a.query.now a.at 3 _ c.sound.result (Record.Root b) c.sound.ensures
-    there tt
-    (rw (fragment_is b (tt, λ h. omega arith) (c.type_inv.query (a.at + 2))))
+    means_sized a.query.now a.at 3 _ c.sound.result (Record.Root c.from.result) c.sound.ensures there tt
+    (rw (c.from.ensures, fragment_is b (tt, λ h. omega arith) (c.type_inv.query (a.at + 2))))

@@ -1,8 +1,9 @@
 -- `step_record` meets its contract: cut, by `fits`; each number of the field by the definition's own table.
-use mathlib.Core.Path.{◌≡◌}
+use Rattle.laws.specs.Attempt.{tried}
+use Rattle.codes.proofs.Numbers.{tried_read}
+use mathlib.Core.Path.{◌≡◌, ◌∙◌}
 use mathlib.Core.Bool.{true}
 use native.Mathlib.Omega.{arith}
-use borrow.Author.Rules.{rules}
 use Rattle.cells.specs.Bytes.{fits}
 use Prim.Native.Nat.{◌+◌, ◌≤◌}
 use lib.ListN.{length}
@@ -10,7 +11,7 @@ use Rattle.query_records.specs.Arms.{step_record}
 use Rattle.cells.proofs.Cut.{fits_cut, fits_room, fits_there}
 use Rattle.query_records.proofs.Arms.{means_cut, step_no_axis, step_no_test}
 use Rattle.query_records.proofs.Arms.{step_means}
-use mathlib.Core.Path.{ap}
+use mathlib.Core.Path.{ap, ◌∙◌}
 use mathlib.Core.Bool.{not}
 use Rattle.query_records.proofs.step_record.Goals as goal
 
@@ -42,15 +43,6 @@ bounds-query-at c =
     fits_room f.result a.query.now a.at 6 f.ensures (ap not c.if-not-fits.false) in
     omega (arith, room)
 
-pub returns-in_default : goal.returns-in_default
-returns-in_default c =
-    let there : fits c.args.query.now c.args.at 6 ≡ true = let a = c.args in
-    let f = c.fits in
-    fits_there f.result a.query.now a.at 6 f.ensures (ap not c.if-not-fits.false) in
-    let a = c.args in
-    let x = c.axis_of in
-    step_no_axis a.query.now a.at there x.result x.ensures c.in_default.is
-
 pub overflow_add-at-2 : goal.overflow_add-at-2
 overflow_add-at-2 c =
     let room : c.args.at + 6 ≤ length c.args.query.now = let a = c.args in
@@ -79,18 +71,29 @@ word2-requires c =
     fits_room f.result a.query.now a.at 6 f.ensures (ap not c.if-not-fits.false) in
     omega (arith, room)
 
-pub returns-in_default-test_of : goal.returns-in_default-test_of
-returns-in_default-test_of c =
+pub returns-in_err-axis : goal.returns-in_err-axis
+returns-in_err-axis c =
     let there : fits c.args.query.now c.args.at 6 ≡ true = let a = c.args in
     let f = c.fits in
     fits_there f.result a.query.now a.at 6 f.ensures (ap not c.if-not-fits.false) in
     let a = c.args in
-    let x = c.axis_of in
-    let axis = c.in-Is in
+    let x = c.ok in
+    let e = ap tried x.ensures.value ∙ tried_read c.try_from.result ∙ c.try_from.ensures in
+    rw c.from_residual.ensures (step_no_axis a.query.now a.at there x.result e c.in_err-axis.was)
+
+pub returns-in_err-test : goal.returns-in_err-test
+returns-in_err-test c =
+    let there : fits c.args.query.now c.args.at 6 ≡ true = let a = c.args in
+    let f = c.fits in
+    fits_there f.result a.query.now a.at 6 f.ensures (ap not c.if-not-fits.false) in
+    let a = c.args in
+    let x = c.ok in
+    let e = ap tried x.ensures.value ∙ tried_read c.try_from.result ∙ c.try_from.ensures in
     let n = c.word2 in
     let t = c.test_of in
-    step_no_test a.query.now a.at there x.result x.ensures n.result n.ensures.0
-    t.result t.ensures axis.axis axis.is c.in_default-test_of.is
+    rw c.from_residual-in_err-test.ensures
+    (step_no_test a.query.now a.at there x.result e n.result n.ensures.0
+    t.result t.ensures c.in_ok-axis.axis c.in_ok-axis.was c.in_err-test.was)
 
 pub returns : goal.returns
 returns c =
@@ -98,10 +101,11 @@ returns c =
     let f = c.fits in
     fits_there f.result a.query.now a.at 6 f.ensures (ap not c.if-not-fits.false) in
     let a = c.args in
-    let x = c.axis_of in
-    let axis = c.in-Is in
+    let x = c.ok in
+    let e = ap tried x.ensures.value ∙ tried_read c.try_from.result ∙ c.try_from.ensures in
+    let axis = c.in_ok-axis in
     let n = c.word2 in
     let t = c.test_of in
-    let test = c.in-Is-test_of in
-    step_means a.query.now a.at there x.result x.ensures n.result n.ensures.0
-    t.result t.ensures axis.axis axis.is test.test c.sound.result test.is c.sound.ensures
+    let test = c.in_ok-test in
+    step_means a.query.now a.at there x.result e n.result n.ensures.0
+    t.result t.ensures axis.axis axis.was test.test c.sound.result test.was c.sound.ensures

@@ -2,7 +2,6 @@
 use mathlib.Core.Path.{◌≡◌}
 use mathlib.Core.Bool.{true}
 use native.Mathlib.Omega.{arith}
-use borrow.Author.Rules.{rules}
 use Rattle.cells.specs.Bytes.{byte_at, fits}
 use Prim.Native.Nat.{◌+◌, ◌≤◌}
 use lib.ListN.{length}
@@ -36,11 +35,6 @@ bounds-query-at c =
     fits_room f.result a.query.now a.at 3 f.ensures (ap not c.if-not-fits.false) in
     omega (arith, room)
 
-pub overflow_cast-result : goal.overflow_cast-result
-overflow_cast-result c =
-    omega
-    (arith, c.type_inv.query (c.args.at + 2))
-
 pub returns-in-0-to-7 : goal.returns-in-0-to-7
 unfolding variable_at variable_of provided
 returns-in-0-to-7 c =
@@ -48,7 +42,7 @@ returns-in-0-to-7 c =
     let f = c.fits in
     fits_there f.result a.query.now a.at 3 f.ensures (ap not c.if-not-fits.false) in
     let a = c.args in
-    rw (there, lt-ltb (byte_at a.query.now (a.at + 2)) 8 (omega arith))
+    rw (c.from.ensures, there, lt-ltb (byte_at a.query.now (a.at + 2)) 8 (omega arith))
 
 pub returns-in-8-to-255 : goal.returns-in-8-to-255
 unfolding variable_at variable_of provided

@@ -1,14 +1,6 @@
 -- `free` meets its contract: the free variables of the operands, put together by the record; the depth left falls.
-use mathlib.Core.Path.{◌≡◌}
 use native.Mathlib.Omega.{arith}
-use borrow.Author.Rules.{rules}
-use Prim.Native.Nat.{ℕ, ◌-◌, ◌<◌}
-use Rattle.laws.specs.Attempt.{gives}
-use Rattle.meaning.specs.Query.{Query}
-use Rattle.query_records.specs.declared.Operands.{Operands}
 use Rattle.query_records.specs.declared.Operands.TheVariants.{None, Variable, One, Two, Binding, Three}
-use Rattle.query_walks.specs.Parse.{parse}
-use Rattle.query_walks.specs.Statements.{Spans}
 use Rattle.query_walks.proofs.Skipping.{parse_deep, parse_unsound, parse_sound}
 use Rattle.query_walks.proofs.Skipping.{free_none, free_variable, free_one, free_two, free_binding, free_three}
 use Rattle.query_walks.proofs.+free.Goals as goal
@@ -31,20 +23,25 @@ overflow_sub-left t c =
 
 pub returns-in-None : goal.returns-in-None
 returns-in-None t c =
-    λ x p. free_none _ _ _ _ (parse_sound c.args.query.now c.args.at c.read.result c.read.ensures c.args.depth c.in-Sound.found c.following.result None c.in-Sound.is c.if-depth-eq0.false c.following.ensures c.in-None.is x p)
+    λ x p. free_none _ _ _ _
+    (parse_sound c.args.query.now c.args.at c.read.result c.read.ensures c.args.depth c.in-Some.found
+    c.following.result None c.in-Some.is c.if-depth-eq0.false c.following.ensures c.in-None.is x p)
 
 pub returns-in-Variable : goal.returns-in-Variable
 returns-in-Variable t c =
     λ x p.
     let v = c.in-Variable in
     rw c.with.ensures
-    (free_variable _ _ _ _ v.v (parse_sound c.args.query.now c.args.at c.read.result c.read.ensures c.args.depth c.in-Sound.found c.following.result (Variable v.v) c.in-Sound.is c.if-depth-eq0.false c.following.ensures v.is x p))
+    (free_variable _ _ _ _ v.v
+    (parse_sound c.args.query.now c.args.at c.read.result c.read.ensures c.args.depth c.in-Some.found
+    c.following.result (Variable v.v) c.in-Some.is c.if-depth-eq0.false c.following.ensures v.is x p))
 
 pub returns-in-One : goal.returns-in-One
 returns-in-One t c =
     λ x p.
     free_one _ _ _ _ c.free.result c.free.ensures
-    (parse_sound c.args.query.now c.args.at c.read.result c.read.ensures c.args.depth c.in-Sound.found c.following.result One c.in-Sound.is c.if-depth-eq0.false c.following.ensures c.in-One.is x p)
+    (parse_sound c.args.query.now c.args.at c.read.result c.read.ensures c.args.depth c.in-Some.found
+    c.following.result One c.in-Some.is c.if-depth-eq0.false c.following.ensures c.in-One.is x p)
 
 pub returns-in-Two : goal.returns-in-Two
 returns-in-Two t c =
@@ -52,7 +49,9 @@ returns-in-Two t c =
     let a = c.free-in-Two in
     let b = c.free-in-Two-2 in
     free_two _ _ _ _ _ a.result b.result c.either.result c.skip.ensures
-    a.ensures b.ensures c.either.ensures (parse_sound c.args.query.now c.args.at c.read.result c.read.ensures c.args.depth c.in-Sound.found c.following.result Two c.in-Sound.is c.if-depth-eq0.false c.following.ensures c.in-Two.is x p)
+    a.ensures b.ensures c.either.ensures
+    (parse_sound c.args.query.now c.args.at c.read.result c.read.ensures c.args.depth c.in-Some.found
+    c.following.result Two c.in-Some.is c.if-depth-eq0.false c.following.ensures c.in-Two.is x p)
 
 pub returns-in-Binding : goal.returns-in-Binding
 returns-in-Binding t c =
@@ -63,7 +62,8 @@ returns-in-Binding t c =
     free_binding _ _ _ _ v.v _ a.result b.result c.either-in-Binding.result
     c.skip-in-Binding.ensures a.ensures b.ensures
     (rw c.with-in-Binding.ensures at c.either-in-Binding.ensures)
-    (parse_sound c.args.query.now c.args.at c.read.result c.read.ensures c.args.depth c.in-Sound.found c.following.result (Binding v.v) c.in-Sound.is c.if-depth-eq0.false c.following.ensures v.is x p)
+    (parse_sound c.args.query.now c.args.at c.read.result c.read.ensures c.args.depth c.in-Some.found
+    c.following.result (Binding v.v) c.in-Some.is c.if-depth-eq0.false c.following.ensures v.is x p)
 
 pub returns-in-Three : goal.returns-in-Three
 returns-in-Three t c =
@@ -76,4 +76,5 @@ returns-in-Three t c =
     c.skip-a.ensures
     c.skip-b.ensures
     q.ensures a.ensures b.ensures m.ensures c.either-in-Three-2.ensures
-    (parse_sound c.args.query.now c.args.at c.read.result c.read.ensures c.args.depth c.in-Sound.found c.following.result Three c.in-Sound.is c.if-depth-eq0.false c.following.ensures c.in-Three.is x p)
+    (parse_sound c.args.query.now c.args.at c.read.result c.read.ensures c.args.depth c.in-Some.found
+    c.following.result Three c.in-Some.is c.if-depth-eq0.false c.following.ensures c.in-Three.is x p)

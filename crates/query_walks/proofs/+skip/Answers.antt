@@ -1,13 +1,6 @@
 -- `skip` meets its contract: the operands of the record at an offset, one after another; the depth left falls.
-use mathlib.Core.Path.{◌≡◌}
 use native.Mathlib.Omega.{arith}
-use borrow.Author.Rules.{rules}
-use Prim.Native.Nat.{ℕ, ◌-◌, ◌<◌}
-use Rattle.laws.specs.Attempt.{gives}
-use Rattle.meaning.specs.Query.{Query}
-use Rattle.query_records.specs.declared.Operands.{Operands}
 use Rattle.query_records.specs.declared.Operands.TheVariants.{None, Variable, One, Two, Binding, Three}
-use Rattle.query_walks.specs.Parse.{parse}
 use Rattle.query_walks.specs.Statements.{Spans}
 use Rattle.query_walks.proofs.Skipping.{parse_deep, parse_unsound, parse_sound, past_one, past_two, past_binding}
 use Rattle.query_walks.proofs.Skipping.{past_three}
@@ -32,33 +25,39 @@ overflow_sub-left t c =
 pub returns-in-None : goal.returns-in-None
 unfolding Spans
 returns-in-None t c =
-    λ x p. (parse_sound c.args.query.now c.args.at c.read.result c.read.ensures c.args.depth c.in-Sound.found c.following.result None c.in-Sound.is c.if-depth-eq0.false c.following.ensures c.in-None.is x p).0
+    λ x p. (parse_sound c.args.query.now c.args.at c.read.result c.read.ensures c.args.depth c.in-Some.found
+    c.following.result None c.in-Some.is c.if-depth-eq0.false c.following.ensures c.in-None.is x p).0
 
 pub returns-in-Variable : goal.returns-in-Variable
 unfolding Spans
 returns-in-Variable t c =
-    λ x p. (parse_sound c.args.query.now c.args.at c.read.result c.read.ensures c.args.depth c.in-Sound.found c.following.result (Variable _) c.in-Sound.is c.if-depth-eq0.false c.following.ensures c.in-Variable.is x p).0
+    λ x p. (parse_sound c.args.query.now c.args.at c.read.result c.read.ensures c.args.depth c.in-Some.found
+    c.following.result (Variable _) c.in-Some.is c.if-depth-eq0.false c.following.ensures c.in-Variable.is x p).0
 
 pub returns-in-One : goal.returns-in-One
 returns-in-One t c =
     λ x p.
     past_one _ _ _ _ _ c.skip.ensures
-    (parse_sound c.args.query.now c.args.at c.read.result c.read.ensures c.args.depth c.in-Sound.found c.following.result One c.in-Sound.is c.if-depth-eq0.false c.following.ensures c.in-One.is x p)
+    (parse_sound c.args.query.now c.args.at c.read.result c.read.ensures c.args.depth c.in-Some.found
+    c.following.result One c.in-Some.is c.if-depth-eq0.false c.following.ensures c.in-One.is x p)
 
 pub returns-in-Two : goal.returns-in-Two
 returns-in-Two t c =
     λ x p.
     past_two _ _ _ _ _ _ c.skip-in-Two.ensures c.skip-in-Two-2.ensures
-    (parse_sound c.args.query.now c.args.at c.read.result c.read.ensures c.args.depth c.in-Sound.found c.following.result Two c.in-Sound.is c.if-depth-eq0.false c.following.ensures c.in-Two.is x p)
+    (parse_sound c.args.query.now c.args.at c.read.result c.read.ensures c.args.depth c.in-Some.found
+    c.following.result Two c.in-Some.is c.if-depth-eq0.false c.following.ensures c.in-Two.is x p)
 
 pub returns-in-Binding : goal.returns-in-Binding
 returns-in-Binding t c =
     λ x p.
     past_binding _ _ _ _ _ _ _ c.skip-in-Binding.ensures c.skip-in-Binding-2.ensures
-    (parse_sound c.args.query.now c.args.at c.read.result c.read.ensures c.args.depth c.in-Sound.found c.following.result (Binding _) c.in-Sound.is c.if-depth-eq0.false c.following.ensures c.in-Binding.is x p)
+    (parse_sound c.args.query.now c.args.at c.read.result c.read.ensures c.args.depth c.in-Some.found
+    c.following.result (Binding _) c.in-Some.is c.if-depth-eq0.false c.following.ensures c.in-Binding.is x p)
 
 pub returns-in-Three : goal.returns-in-Three
 returns-in-Three t c =
     λ x p.
     past_three _ _ _ _ _ _ _ c.skip-in-Three.ensures c.skip-in-Three-2.ensures c.skip-in-Three-3.ensures
-    (parse_sound c.args.query.now c.args.at c.read.result c.read.ensures c.args.depth c.in-Sound.found c.following.result Three c.in-Sound.is c.if-depth-eq0.false c.following.ensures c.in-Three.is x p)
+    (parse_sound c.args.query.now c.args.at c.read.result c.read.ensures c.args.depth c.in-Some.found
+    c.following.result Three c.in-Some.is c.if-depth-eq0.false c.following.ensures c.in-Three.is x p)

@@ -1,29 +1,22 @@
 -- `hand_out` meets its contract: the query check's refusals, then 8, then the records.
-use borrow.Author.Rules.{rules}
+use Rattle.std.proofs.lemmas.Result.{err_from_is_err_and}
 use Rattle.queries.proofs.Callers.{check_reads, check_refuses}
 use Rattle.reader.proofs.Concluding.{concludes_refused, concludes_longer, concludes_fits}
 use Rattle.reader.proofs.hand_out.Goals as goal
 
-pub returns-in_default : goal.returns-in_default
-returns-in_default c =
-    let bs = c.args.bytes.now in
-    let (k, p, q, e) =
-    check_refuses bs c.check-checked.result c.check-checked.ensures (search rules) in
-    concludes_refused bs c.args.query.now _ _ k p q
-    (c.handed_up.ensures k p (λ one. c.requires.0 p (rw one at q)) e)
-    c.clear.ensures
+pub returns-in_err-records : goal.returns-in_err-records
+returns-in_err-records c =
+    let p = err_from_is_err_and c.from_residual.result c.from_residual.ensures.1 in
+    rw (p.1, p.2)
+    (concludes_refused c.args.bytes.now c.args.query.now _
+    (check_refuses _ _ c.check.ensures _ c.in_err-records.was))
 
 pub returns-then-query-bytes : goal.returns-then-query-bytes
 returns-then-query-bytes c =
-    let bs = c.args.bytes.now in
-    let (r, e, n) =
-    check_reads bs c.check-checked.result c.check-checked.ensures _ c.in-Records.is in
-    concludes_longer bs c.args.query.now _ r e c.if-query-bytes.true c.clear-then-query-bytes.ensures
+    let (r, e, n) = check_reads _ _ c.check.ensures _ c.in_ok-records.was in
+    concludes_longer _ _ r e c.if-query-bytes.true
 
 pub returns : goal.returns
 returns c =
-    let bs = c.args.bytes.now in
-    let (r, e, n) =
-    check_reads bs c.check-checked.result c.check-checked.ensures _ c.in-Records.is in
-    concludes_fits bs c.args.query.now _ _ r _ e n c.if-query-bytes.false c.put_word.ensures
-    c.clear-2.ensures
+    let (r, e, n) = check_reads _ _ c.check.ensures _ c.in_ok-records.was in
+    concludes_fits _ _ r e _ _ n c.if-query-bytes.false c.put_word.ensures

@@ -6,4 +6,4 @@ use Rattle.recording.proofs.add.Goals as goal
 
 pub returns : goal.returns
 returns c =
-    added _ _ _ _ _ (omega arith) (search rules) c.least.ensures c.put.ensures
+    added _ _ _ _ _ (omega arith) (search rules) c.min.ensures c.put.ensures

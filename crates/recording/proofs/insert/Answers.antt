@@ -6,5 +6,5 @@ use Rattle.recording.proofs.insert.Goals as goal
 
 pub returns : goal.returns
 returns c =
-    inserted _ _ _ _ _ _ _ c.requires.1 c.requires.0.within (omega arith) (search rules) c.least.ensures
+    inserted _ _ _ _ _ _ _ c.requires.1 c.requires.0.within (omega arith) (search rules) c.min.ensures
     c.shift.ensures c.put.ensures

@@ -1,8 +1,6 @@
 -- `rows::attach` meets its contract: the row is copied, and one cell stands behind it.
-use Prim.Native.Nat.{◌-◌}
 use native.Mathlib.Omega.{arith}
 use mir.Facts.{to_z-of_z}
-use borrow.Author.Rules.{rules}
 use Rattle.tables.proofs.Promise.{attached_full, attached_laid}
 use Rattle.rows.proofs.attach.Goals as goal
 

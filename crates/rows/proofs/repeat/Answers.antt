@@ -1,7 +1,5 @@
 -- `rows::repeat` meets its contract: the row is copied where there is room for it.
-use Prim.Native.Nat.{◌-◌}
 use native.Mathlib.Omega.{arith}
-use borrow.Author.Rules.{rules}
 use Rattle.laws.proofs.Rows.{length_row}
 use Rattle.tables.proofs.Promise.{one_full, one_laid}
 use Rattle.rows.proofs.repeat.Goals as goal

@@ -1,6 +1,5 @@
 -- `runner::run` meets its contract: what was worked out, with the cells past it cleared.
 use Rattle.runner.proofs.Calling.{cleared}
-use borrow.Author.Rules.{rules}
 use Rattle.runner.proofs.run.Goals as goal
 
 pub returns : goal.returns

@@ -9,42 +9,34 @@ use Rattle.shown_rows.proofs.Lining.{cell_stray, cell_integer, cell_truth, cell_
 use borrow.Author.Rules.{rules}
 use Rattle.shown_rows.proofs.put_cell.Goals as goal
 
-pub returns-in_default : goal.returns-in_default
-returns-in_default c = (
-  pens_as
-      (cell_stray _ _ _ (to_z-of_z c.ranges.cell) c.item_of-held.ensures
-      c.in_default.is)
-      (pens_none _ _),
+pub returns-in-None : goal.returns-in-None
+returns-in-None c = (
+  pens_as (cell_stray _ _ _ (to_z-of_z c.ranges.cell) c.item_of.ensures c.in-None.is) (pens_none _ _),
   omega arith,
 )
 
-pub returns-in-Integer : goal.returns-in-Integer
-returns-in-Integer c =
-    let narrow : SFits w32 c.in-Integer.z = search rules in (
+pub returns-in-Some-Integer : goal.returns-in-Some-Integer
+returns-in-Some-Integer c =
+    let narrow : SFits w32 c.in-Some-Integer.z = search rules in (
       pens_as
-          (cell_integer _ _ _ (to_z-of_z c.ranges.cell) c.item_of-held.ensures _
-          c.in-Item.is _ _
-          (to_z-of_z narrow) c.in-Integer.is)
+          (cell_integer _ _ _ (to_z-of_z c.ranges.cell) c.item_of.ensures _ c.in-Some-Integer.is _ _ (to_z-of_z narrow)
+          c.in-Some-Integer.field-0-is)
           c.put_signed.ensures,
       omega (arith, signed_end _ c.put_signed.ensures),
     )
 
-pub returns-in-Truth : goal.returns-in-Truth
-returns-in-Truth c = (
+pub returns-in-Some-Truth : goal.returns-in-Some-Truth
+returns-in-Some-Truth c = (
   pens_as
-      (cell_truth _ _ _ (to_z-of_z c.ranges.cell) c.item_of-held.ensures _
-      c.in-Item.is _
-      c.in-Truth.is)
+      (cell_truth _ _ _ (to_z-of_z c.ranges.cell) c.item_of.ensures _ c.in-Some-Truth.is _ c.in-Some-Truth.field-0-is)
       c.put_truth.ensures.0,
   c.put_truth.ensures.1,
 )
 
-pub returns-in-Node : goal.returns-in-Node
-returns-in-Node c = (
+pub returns-in-Some-Node : goal.returns-in-Some-Node
+returns-in-Some-Node c = (
   pens_as
-      (cell_node _ _ _ (to_z-of_z c.ranges.cell) c.item_of-held.ensures _
-      c.in-Item.is _
-      c.in-Node.is)
+      (cell_node _ _ _ (to_z-of_z c.ranges.cell) c.item_of.ensures _ c.in-Some-Node.is _ c.in-Some-Node.field-0-is)
       c.put_node.ensures.0,
   c.put_node.ensures.1,
 )

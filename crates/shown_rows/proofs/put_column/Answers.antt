@@ -5,7 +5,6 @@ use native.Mathlib.Omega.{arith}
 use mir.Facts.{to_z-of_z}
 use Rattle.pen.proofs.Putting.{pens_as}
 use Rattle.shown_rows.proofs.Lining.{column_is, taken_short}
-use borrow.Author.Rules.{rules}
 use Rattle.shown_rows.proofs.put_column.Goals as goal
 
 pub returns : goal.returns

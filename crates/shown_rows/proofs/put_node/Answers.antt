@@ -2,7 +2,6 @@
 use native.Mathlib.Omega.{arith}
 use Rattle.pen.proofs.Putting.{pens_more}
 use Rattle.pen.proofs.Digits.{decimal_end}
-use borrow.Author.Rules.{rules}
 use Rattle.shown_rows.proofs.put_node.Goals as goal
 
 pub returns : goal.returns

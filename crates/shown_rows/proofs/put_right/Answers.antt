@@ -5,7 +5,6 @@ use lib.ListN.{length, drop, replicate}
 use native.Mathlib.Omega.{arith}
 use Rattle.pen.proofs.Putting.{pens_more, pens_as}
 use Rattle.shown_rows.proofs.Lining.{right_long, right_short, taken_short}
-use borrow.Author.Rules.{rules}
 use Rattle.shown_rows.proofs.put_right.Goals as goal
 
 pub returns-then-n-ge12 : goal.returns-then-n-ge12

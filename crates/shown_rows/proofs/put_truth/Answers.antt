@@ -3,7 +3,6 @@ use mathlib.Core.Path.{sym, ap}
 use native.Mathlib.Omega.{arith}
 use Rattle.pen.proofs.Putting.{pens_as}
 use Rattle.shown_rows.specs.Rows.{truth_word}
-use borrow.Author.Rules.{rules}
 use Rattle.shown_rows.proofs.put_truth.Goals as goal
 
 pub returns-then-b : goal.returns-then-b

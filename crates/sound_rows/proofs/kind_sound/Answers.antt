@@ -1,7 +1,6 @@
 -- `kind_sound` goes by the kind: an element, a text, or neither.
 use mathlib.Core.Path.{◌∙◌, ap}
 use mir.Facts.{to_z-of_z}
-use borrow.Author.Rules.{rules}
 use Rattle.meaning.specs.Catalogue.{is_name}
 use Rattle.sound_rows.proofs.OwnFields.{kind_element, kind_text, kind_other}
 use Rattle.sound_rows.proofs.kind_sound.Goals as goal

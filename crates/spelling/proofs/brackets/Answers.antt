@@ -1,24 +1,21 @@
 -- `spelling::brackets` meets its contract.
-use borrow.Author.Rules.{rules}
-use mathlib.Core.Path.{◌≡◌, refl, sym, ◌∙◌, ap}
-use Rattle.spelling.specs.Answers.{fixed_told, fixed_place, kind_is}
 use Rattle.grammar.specs.Words.{symbol, close_sign}
 use Rattle.parsing.specs.Reader.{then, give, read_word}
-use Rattle.spelling.proofs.Answering.{passed, stopped, on, off, only}
+use Rattle.spelling.proofs.Answering.{passed, stopped, on, off, fixed_up, only}
 use Rattle.spelling.proofs.brackets.Goals as goal
 
-pub fixed-requires-in-Past : goal.fixed-requires-in-Past
-fixed-requires-in-Past c =
-    (passed c.fixed.ensures c.in-Past.is).inside
+pub returns-in_err-next : goal.returns-in_err-next
+returns-in_err-next c =
+    fixed_up _ c.from_residual.ensures.1
+    (off (λ opened u. then (read_word symbol close_sign u) (λ closed. give tt))
+    (stopped c.fixed.ensures c.in_err-next.was))
 
-pub returns-in-Past : goal.returns-in-Past
-returns-in-Past c =
+pub fixed-requires-2 : goal.fixed-requires-2
+fixed-requires-2 c =
+    (passed c.fixed.ensures c.in_ok-next.was).inside
+
+pub returns : goal.returns
+returns c =
     on (λ opened u. then (read_word symbol close_sign u) (λ closed. give tt))
-    (passed c.fixed.ensures c.in-Past.is)
-    (only c.fixed-in-Past.ensures)
-
-pub returns-in-Stuck : goal.returns-in-Stuck
-unfolding fixed_told fixed_place
-returns-in-Stuck c =
-    off (λ opened u. then (read_word symbol close_sign u) (λ closed. give tt))
-    (stopped c.fixed.ensures c.in-Stuck.is)
+    (passed c.fixed.ensures c.in_ok-next.was)
+    (only c.fixed-2.ensures)

@@ -1,8 +1,8 @@
 -- `spelling::enter` meets its contract.
-use borrow.Author.Rules.{rules}
 use native.Mathlib.Omega.{arith}
-use mathlib.Core.Path.{◌≡◌, refl, sym, ◌∙◌, ap}
-use Rattle.spelling.specs.Answers.{fixed_told, fixed_place, kind_is}
+use mathlib.Core.Path.{◌∙◌, ap}
+use Rattle.numerals.specs.Answers.{fixed_place}
+use Rattle.spelling.specs.Answers.{fixed_told}
 use Rattle.parsing.specs.Reader.{ok}
 use Rattle.spelling.proofs.Answering.{enter_space, enter_joins, enter_free, space_seen, joins_seen, spaces_skip}
 use Rattle.spelling.proofs.enter.Goals as goal

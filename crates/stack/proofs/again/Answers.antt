@@ -3,7 +3,6 @@ use mathlib.Core.Logic.{inr}
 use native.Mathlib.Omega.{arith}
 use Rattle.laws.proofs.Rows.{length_row}
 use Rattle.stack.proofs.Leaving.{leaves_crowded, leaves_added}
-use borrow.Author.Rules.{rules}
 use Rattle.stack.proofs.again.Goals as goal
 
 pub returns-then-room-top : goal.returns-then-room-top
@@ -15,11 +14,12 @@ returns-then-room-top c =
 
 pub copy-requires : goal.copy-requires
 copy-requires c =
-    (inr c.requires.1, omega (arith, c.requires.0.low, c.requires.0.lent), omega (arith, c.requires.0.low, c.requires.0.lent))
+    let p = c.requires.0 in
+    (inr c.requires.1, omega (arith, p.low, p.lent), omega (arith, p.low, p.lent))
 
 pub returns : goal.returns
 returns c =
     let s = length_row c.args.work.now c.args.start c.args.n
     (omega (arith, c.requires.0.low, c.requires.0.lent)) in
-    leaves_added _ _ _ _ _ _ _ c.requires.0 _ _ _ _ (omega (arith, c.if-room-top.false))
-    c.copy.ensures s (omega arith) (λ e h. h)
+    leaves_added _ _ _ _ _ _ _ c.requires.0 _ _ (omega (arith, c.if-room-top.false))
+    c.copy.ensures s (omega (arith, s)) (λ e h. h)

@@ -1,37 +1,48 @@
--- `number` meets its contract: an operand that is refused is handed on; else the number of items is added.
-use mathlib.Core.Path.{sym, ◌∙◌, ap, subst}
+-- `number` meets its contract: the number of items is added, where the room suffices.
+use Prim.Native.Nat.{ℕ, ◌+◌, ◌≤◌, ◌<◌, ◌^◌}
+use mathlib.Core.Path.{◌≡◌, sym, ◌∙◌, ap}
+use mathlib.Core.List.{List, [], ◌∷◌}
 use native.Mathlib.Omega.{arith}
 use borrow.Author.Rules.{sfits_of}
 use mir.Syntax.{w64}
+use mir.Val.{to_z, of_z}
 use mir.Facts.{to_z-of_z}
 use lib.IntN.{ℤ, pos}
-use mathlib.Core.List.{[], ◌∷◌}
-use Prim.Native.Nat.{◌-◌}
+use lib.ListN.{length}
+use Rattle.std.specs.Prelude.{Ok}
+use Rattle.laws.specs.Rows.{row}
 use Rattle.laws.proofs.Rows.{length_row}
 use Rattle.meaning.specs.Counted.{adding}
-use Rattle.stack.specs.Stack.{Fit}
 use Rattle.stack.specs.Moves.{counted, raised}
-use Rattle.stack.proofs.Leaving.{not_items, leaves_stopped, leaves_items, leaves_raised, leaves_as}
-use borrow.Author.Rules.{rules}
+use Rattle.stack.proofs.Exits.{err_is}
+use Rattle.stack.proofs.Leaving.{leaves_items, leaves_raised, leaves_refused, leaves_as}
 use Rattle.stack.proofs.number.Goals as goal
 
-pub returns-in_default : goal.returns-in_default
-unfolding counted
-returns-in_default c =
-    leaves_stopped _ _ _ _ _ (not_items _ c.in_default.not-Items)
+-- the number of items, as the machine has it
+numbered :
+    (cells : List ℤ) (top l k room at : ℕ) → top + l ≤ length cells → l < 2 ^ 63 →
+    raised k (adding room at 0 (to_z w64 (of_z w64 (pos l)) ∷ []))
+    ≡ raised k (adding room at 0 (pos (length (row cells top l)) ∷ []))
+numbered cells top l k room at h f =
+    ap (λ (z : ℤ). raised k (adding room at 0 (z ∷ [])))
+    (to_z-of_z {w = w64} (sfits_of (omega arith)) ∙ ap pos (sym (length_row cells top l h)))
 
-pub overflow_cast-length : goal.overflow_cast-length
-overflow_cast-length c =
-    let f = subst (Fit c.args.top c.args.room) c.in-Items.is c.requires.1 in
-    sfits_of (omega (arith, f.0, f.1, c.requires.0.lent))
+pub overflow_cast-operand : goal.overflow_cast-operand
+overflow_cast-operand c =
+    sfits_of (omega (arith, c.requires.0.lent))
+
+pub returns-in_err-added : goal.returns-in_err-added
+unfolding counted
+returns-in_err-added c =
+    leaves_items _ _ _ _ _ _ _
+    (leaves_as _ _ _ _ _ _ _ _ _
+    (numbered _ _ _ _ _ _ (omega (arith, c.requires.0.lent)) (omega (arith, c.requires.0.lent)))
+    (sym (err_is _ _ c.from_residual.ensures.1)) (leaves_refused _ _ _ _ _ _ _ _ c.in_err-added.ensures))
 
 pub returns : goal.returns
 unfolding counted
 returns c =
-    let f = subst (Fit c.args.top c.args.room) c.in-Items.is c.requires.1 in
-    leaves_items _ _ _ _ _ _ _ _ _ _ c.in-Items.is
+    leaves_items _ _ _ _ _ _ _
     (leaves_as _ _ _ _ _ _ _ _ _
-    (ap (λ (z : ℤ). raised c.in-Items.count (adding (c.args.room - c.args.top) c.args.at 0 (z ∷ [])))
-    (to_z-of_z {w = w64} (let f = subst (Fit c.args.top c.args.room) c.in-Items.is c.requires.1 in sfits_of (omega (arith, f.0, f.1, c.requires.0.lent)))
-    ∙ ap pos (sym (length_row _ _ _ (omega (arith, f.0, f.1, c.requires.0.lent))))))
-    (sym c.raise.ensures) (leaves_raised _ _ _ _ _ _ _ _ (omega (arith, f.1)) c.put.ensures))
+    (numbered _ _ _ _ _ _ (omega (arith, c.requires.0.lent)) (omega (arith, c.requires.0.lent)))
+    (sym (ap Ok c.raise.ensures)) (leaves_raised _ _ _ _ _ _ _ _ (omega arith) c.in_ok-added.ensures))

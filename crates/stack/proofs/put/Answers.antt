@@ -3,7 +3,6 @@ use mathlib.Core.Path.{refl}
 use native.Mathlib.Omega.{arith}
 use mir.Facts.{to_z-of_z}
 use Rattle.stack.proofs.Leaving.{leaves_crowded, leaves_added, put_at}
-use borrow.Author.Rules.{rules}
 use Rattle.stack.proofs.put.Goals as goal
 
 pub returns-then-top-room : goal.returns-then-top-room
@@ -12,5 +11,5 @@ returns-then-top-room c =
 
 pub returns : goal.returns
 returns c =
-    leaves_added _ _ _ _ _ _ _ c.requires _ 1 1 _ (omega (arith, c.requires.low))
+    leaves_added _ _ _ _ _ _ _ c.requires _ _ (omega (arith, c.requires.low))
     (put_at _ _ _ _ (to_z-of_z c.ranges.cell) (omega (arith, c.requires.low, c.requires.lent))) refl refl (λ e h. h)

@@ -1,5 +1,4 @@
 -- `step_parts::passes` meets its contract, test by test.
-use borrow.Author.Rules.{rules}
 use Rattle.step_parts.proofs.Passing.{any_is_passed, element_is, text_is}
 use Rattle.step_parts.proofs.passes.Goals as goal
 

@@ -1,5 +1,4 @@
 -- `step_parts::takes` meets its contract: a row that is not on the axis is not tested.
-use borrow.Author.Rules.{rules}
 use Rattle.step_parts.proofs.takes.Goals as goal
 
 pub returns-then-on : goal.returns-then-on

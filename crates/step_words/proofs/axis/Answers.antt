@@ -1,37 +1,38 @@
 -- `step_words::axis` meets its contract.
 use borrow.Author.Rules.{rules}
 use native.Mathlib.Omega.{arith}
-use mathlib.Core.Path.{◌≡◌, refl, sym, ◌∙◌, ap}
+use mathlib.Core.Path.{refl}
 use Rattle.laws.specs.Characters.{first}
 use Rattle.parsing.specs.Reader.{rest, read_axis}
 use Rattle.spelling.proofs.Bridging.{looks_first, looks_there}
 use Rattle.spelling.proofs.Answering.{by_left}
-use Rattle.spelling.specs.Answers.{axis_told, axis_place}
+use Rattle.numerals.specs.Answers.{read_place}
+use Rattle.spelling.specs.Answers.{value_told}
 use Rattle.spelling.proofs.Choosing.{axis_other}
 use Rattle.step_words.proofs.axis.Goals as goal
 
-pub axis_rest-requires : goal.axis_rest-requires
-axis_rest-requires c =
+pub spelled-requires : goal.spelled-requires
+spelled-requires c =
     (looks_there _ _ _ c.byte-b.ensures 99 c.in-99.is (omega arith)).0
 
 pub descendant-requires : goal.descendant-requires
 descendant-requires c =
     (looks_there _ _ _ c.byte-b.ensures 100 c.in-100.is (omega arith)).0
 
-pub axis_rest-requires-in-115 : goal.axis_rest-requires-in-115
-axis_rest-requires-in-115 c =
+pub spelled-requires-in-115 : goal.spelled-requires-in-115
+spelled-requires-in-115 c =
     (looks_there _ _ _ c.byte-b.ensures 115 c.in-115.is (omega arith)).0
 
 pub parent-requires : goal.parent-requires
 parent-requires c =
     (looks_there _ _ _ c.byte-b.ensures 112 c.in-112.is (omega arith)).0
 
-pub axis_rest-requires-in-97 : goal.axis_rest-requires-in-97
-axis_rest-requires-in-97 c =
+pub spelled-requires-in-97 : goal.spelled-requires-in-97
+spelled-requires-in-97 c =
     (looks_there _ _ _ c.byte-b.ensures 97 c.in-97.is (omega arith)).0
 
-pub axis_rest-requires-in-102 : goal.axis_rest-requires-in-102
-axis_rest-requires-in-102 c =
+pub spelled-requires-in-102 : goal.spelled-requires-in-102
+spelled-requires-in-102 c =
     (looks_there _ _ _ c.byte-b.ensures 102 c.in-102.is (omega arith)).0
 
 pub returns-in-99 : goal.returns-in-99
@@ -40,7 +41,7 @@ returns-in-99 c =
     by_left read_axis
     (looks_there _ _ _ c.byte-b.ensures 99 c.in-99.is (omega arith)).1
     refl
-    c.axis_rest.ensures
+    c.spelled.ensures
 
 pub returns-in-100 : goal.returns-in-100
 unfolding first rest
@@ -57,7 +58,7 @@ returns-in-115 c =
     (looks_there _ _ _ c.byte-b.ensures 115 c.in-115.is
     (omega arith)).1
     refl
-    c.axis_rest-in-115.ensures
+    c.spelled-in-115.ensures
 
 pub returns-in-112 : goal.returns-in-112
 unfolding first rest
@@ -73,7 +74,7 @@ returns-in-97 c =
     by_left read_axis
     (looks_there _ _ _ c.byte-b.ensures 97 c.in-97.is (omega arith)).1
     refl
-    c.axis_rest-in-97.ensures
+    c.spelled-in-97.ensures
 
 pub returns-in-102 : goal.returns-in-102
 unfolding first rest
@@ -82,10 +83,10 @@ returns-in-102 c =
     (looks_there _ _ _ c.byte-b.ensures 102 c.in-102.is
     (omega arith)).1
     refl
-    c.axis_rest-in-102.ensures
+    c.spelled-in-102.ensures
 
 pub returns-in_default : goal.returns-in_default
-unfolding axis_told axis_place
+unfolding value_told read_place
 returns-in_default c =
     record {
       means = axis_other _ _ (looks_first _ _ _ c.byte-b.ensures) (search rules);

@@ -1,11 +1,10 @@
 -- `step_words::descendant` meets its contract.
-use borrow.Author.Rules.{rules}
-use mathlib.Core.Path.{◌≡◌, refl, sym, ◌∙◌, ap}
+use mathlib.Core.Path.{refl}
 use mathlib.Core.List.{[], ◌∷◌}
 use Rattle.laws.specs.Lists.{all}
-use Rattle.spelling.specs.Answers.{axis_told, axis_place, or_self}
+use Rattle.spelling.specs.Answers.{or_self}
 use Rattle.spelling.proofs.Bridging.{small}
-use Rattle.spelling.proofs.Answering.{passed, stopped, on, off, word_reads}
+use Rattle.spelling.proofs.Answering.{passed, stopped, on, off, word_reads, value_up}
 use Rattle.step_words.proofs.descendant.Goals as goal
 
 pub or_self-requires : goal.or_self-requires
@@ -13,23 +12,24 @@ unfolding all
 or_self-requires c =
     (passed (word_reads _ (101 ∷ 115 ∷ 99 ∷ 101 ∷ 110 ∷ 100 ∷ 97 ∷ 110 ∷ 116 ∷ []) _ _
     (small (101 ∷ 115 ∷ 99 ∷ 101 ∷ 110 ∷ 100 ∷ 97 ∷ 110 ∷ 116 ∷ []) refl)
-    c.word.ensures) c.in-Past.is
+    c.word.ensures) c.in_ok-next.was
     ).inside
 
-pub returns-in-Past : goal.returns-in-Past
+pub returns : goal.returns
 unfolding all
-returns-in-Past c =
+returns c =
     on (λ done. or_self)
     (passed (word_reads _ (101 ∷ 115 ∷ 99 ∷ 101 ∷ 110 ∷ 100 ∷ 97 ∷ 110 ∷ 116 ∷ []) _ _
     (small (101 ∷ 115 ∷ 99 ∷ 101 ∷ 110 ∷ 100 ∷ 97 ∷ 110 ∷ 116 ∷ []) refl)
     c.word.ensures)
-    c.in-Past.is)
+    c.in_ok-next.was)
     c.or_self.ensures
 
-pub returns-in-Stuck : goal.returns-in-Stuck
-unfolding axis_told axis_place all
-returns-in-Stuck c =
-    off (λ done. or_self)
+pub returns-in_err-next : goal.returns-in_err-next
+unfolding all
+returns-in_err-next c =
+    value_up _ c.from_residual.ensures.1
+    (off (λ done. or_self)
     (stopped (word_reads _ (101 ∷ 115 ∷ 99 ∷ 101 ∷ 110 ∷ 100 ∷ 97 ∷ 110 ∷ 116 ∷ []) _ _
     (small (101 ∷ 115 ∷ 99 ∷ 101 ∷ 110 ∷ 100 ∷ 97 ∷ 110 ∷ 116 ∷ []) refl) c.word.ensures)
-    c.in-Stuck.is)
+    c.in_err-next.was))

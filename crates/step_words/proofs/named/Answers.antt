@@ -1,21 +1,21 @@
 -- `step_words::named` meets its contract.
-use borrow.Author.Rules.{rules}
-use mathlib.Core.Path.{◌≡◌, refl, sym, ◌∙◌, ap}
-use Rattle.spelling.specs.Answers.{test_told, test_place}
+use mathlib.Core.Path.{refl}
+use Rattle.numerals.specs.Answers.{read_place}
+use Rattle.spelling.specs.Answers.{value_told}
 use Rattle.parsing.specs.Reader.{give}
 use Rattle.codes.specs.declared.Test.TheVariants.{Named}
-use Rattle.spelling.proofs.Answering.{is_number, no_number, on, off, name_reads}
+use Rattle.spelling.proofs.Answering.{is_value, no_value, on, off, name_reads, value_up}
 use Rattle.step_words.proofs.named.Goals as goal
 
-pub returns-in-Is : goal.returns-in-Is
-unfolding test_told test_place
-returns-in-Is c =
-    let done = is_number (name_reads _ _ _ c.name_number.ensures)
-    c.in-Is.is in
+pub returns : goal.returns
+unfolding value_told read_place
+returns c =
+    let done = is_value (name_reads _ _ _ c.name_number.ensures)
+    c.in_ok-n.was in
     on (λ n. give (Named n)) done (record { means = refl; inside = done.inside })
 
-pub returns-in-Stuck : goal.returns-in-Stuck
-unfolding test_told test_place
-returns-in-Stuck c =
-    off (λ n. give (Named n))
-    (no_number (name_reads _ _ _ c.name_number.ensures) c.in-Stuck.is)
+pub returns-in_err-n : goal.returns-in_err-n
+returns-in_err-n c =
+    value_up _ c.from_residual.ensures.1
+    (off (λ n. give (Named n))
+    (no_value (name_reads _ _ _ c.name_number.ensures) c.in_err-n.was))

@@ -1,7 +1,6 @@
 -- `step_words::node` meets its contract.
-use borrow.Author.Rules.{rules}
 use native.Mathlib.Omega.{arith}
-use mathlib.Core.Path.{◌≡◌, refl, sym, ◌∙◌, ap}
+use mathlib.Core.Path.{refl, sym, ◌∙◌}
 use Rattle.laws.specs.Characters.{first}
 use Rattle.spelling.specs.Answers.{node_rest}
 use Rattle.parsing.specs.Reader.{rest}
@@ -12,13 +11,13 @@ use Rattle.step_words.proofs.node.Goals as goal
 
 pub test_called-requires : goal.test_called-requires
 test_called-requires c =
-    (looks_there _ _ _ c.byte-b.ensures 111 c.if-b.true (omega arith)).0
+    (looks_there _ _ _ c.byte-b.ensures 111 (c.if-b-from.true ∙ c.from.ensures) (omega arith)).0
 
-pub returns-then-b : goal.returns-then-b
+pub returns-then-b-from : goal.returns-then-b-from
 unfolding first rest
-returns-then-b c =
+returns-then-b-from c =
     by_left node_rest
-    (looks_there _ _ _ c.byte-b.ensures 111 c.if-b.true (omega arith)).1
+    (looks_there _ _ _ c.byte-b.ensures 111 (c.if-b-from.true ∙ c.from.ensures) (omega arith)).1
     refl
     c.test_called.ensures
 
@@ -26,7 +25,7 @@ pub returns : goal.returns
 returns c =
     record {
       means =
-          node_other _ _ (looks_first _ _ _ c.byte-b.ensures) c.if-b.false
+          node_other _ _ (looks_first _ _ _ c.byte-b.ensures) (λ e. c.if-b-from.false (e ∙ sym c.from.ensures))
           ∙ c.named.ensures.means;
       inside = c.named.ensures.inside;
     }

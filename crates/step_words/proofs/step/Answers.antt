@@ -1,27 +1,25 @@
 -- `step_words::step` meets its contract.
-use borrow.Author.Rules.{rules}
-use mathlib.Core.Path.{◌≡◌, refl, sym, ◌∙◌, ap}
-use Rattle.spelling.specs.Answers.{step_told, step_place, step_rest}
+use Rattle.spelling.specs.Answers.{step_rest}
 use Rattle.parsing.specs.Reader.{read_axis}
-use Rattle.spelling.proofs.Answering.{past_axis, no_axis, on, off, symbol_reads}
+use Rattle.spelling.proofs.Answering.{is_value, no_value, on, off, symbol_reads, value_up}
 use Rattle.step_words.proofs.step.Goals as goal
 
 pub step_rest-requires : goal.step_rest-requires
 step_rest-requires c =
-    (past_axis c.axis.ensures c.in-Past.is).inside
+    (is_value c.axis.ensures c.in_ok-axis.was).inside
 
-pub returns-in-Past : goal.returns-in-Past
-returns-in-Past c =
+pub returns : goal.returns
+returns c =
     let a = c.args in
     on step_rest
     (symbol_reads _ read_axis a.at c.spaces.result c.spaces.ensures.0
-    (past_axis c.axis.ensures c.in-Past.is))
+    (is_value c.axis.ensures c.in_ok-axis.was))
     c.step_rest.ensures
 
-pub returns-in-Stuck : goal.returns-in-Stuck
-unfolding step_told step_place
-returns-in-Stuck c =
+pub returns-in_err-axis : goal.returns-in_err-axis
+returns-in_err-axis c =
     let a = c.args in
-    off step_rest
+    value_up _ c.from_residual.ensures.1
+    (off step_rest
     (symbol_reads _ read_axis a.at c.spaces.result c.spaces.ensures.0
-    (no_axis c.axis.ensures c.in-Stuck.is))
+    (no_value c.axis.ensures c.in_err-axis.was)))

@@ -1,22 +1,20 @@
 -- `step_words::step_rest` meets its contract.
-use borrow.Author.Rules.{rules}
-use mathlib.Core.Path.{◌≡◌, refl, sym, ◌∙◌, ap}
-use Rattle.spelling.specs.Answers.{step_told, step_place, step_test}
-use Rattle.spelling.proofs.Answering.{passed, stopped, on, off}
+use Rattle.spelling.specs.Answers.{step_test}
+use Rattle.spelling.proofs.Answering.{passed, stopped, on, off, value_up}
 use Rattle.step_words.proofs.step_rest.Goals as goal
 
 pub step_test-requires : goal.step_test-requires
 step_test-requires c =
-    (passed c.fixed.ensures c.in-Past.is).inside
+    (passed c.fixed.ensures c.in_ok-next.was).inside
 
-pub returns-in-Past : goal.returns-in-Past
-returns-in-Past c =
+pub returns : goal.returns
+returns c =
     let a = c.args in
-    on (λ done. step_test a.axis) (passed c.fixed.ensures c.in-Past.is)
+    on (λ done. step_test a.axis) (passed c.fixed.ensures c.in_ok-next.was)
     c.step_test.ensures
 
-pub returns-in-Stuck : goal.returns-in-Stuck
-unfolding step_told step_place
-returns-in-Stuck c =
+pub returns-in_err-next : goal.returns-in_err-next
+returns-in_err-next c =
     let a = c.args in
-    off (λ done. step_test a.axis) (stopped c.fixed.ensures c.in-Stuck.is)
+    value_up _ c.from_residual.ensures.1
+    (off (λ done. step_test a.axis) (stopped c.fixed.ensures c.in_err-next.was))

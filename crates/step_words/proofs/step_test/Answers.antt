@@ -1,24 +1,24 @@
 -- `step_words::step_test` meets its contract.
-use borrow.Author.Rules.{rules}
-use mathlib.Core.Path.{◌≡◌, refl, sym, ◌∙◌, ap}
-use Rattle.spelling.specs.Answers.{step_told, step_place}
+use mathlib.Core.Path.{refl}
+use Rattle.numerals.specs.Answers.{read_place}
+use Rattle.spelling.specs.Answers.{value_told}
 use Rattle.parsing.specs.Reader.{give, read_test}
-use Rattle.spelling.proofs.Answering.{past_test, no_test, on, off, symbol_reads}
+use Rattle.spelling.proofs.Answering.{is_value, no_value, on, off, symbol_reads, value_up}
 use Rattle.step_words.proofs.step_test.Goals as goal
 
-pub returns-in-Past : goal.returns-in-Past
-unfolding step_told step_place
-returns-in-Past c =
+pub returns : goal.returns
+unfolding value_told read_place
+returns c =
     let a = c.args in
-    let done = past_test c.test.ensures c.in-Past.is in
-    on (λ p. give (record { along = a.axis; passing = p }))
+    let done = is_value c.test.ensures c.in_ok-test.was in
+    on (λ p. give (record { axis = a.axis; test = p }))
     (symbol_reads _ read_test a.at c.spaces.result c.spaces.ensures.0 done)
     (record { means = refl; inside = done.inside })
 
-pub returns-in-Stuck : goal.returns-in-Stuck
-unfolding step_told step_place
-returns-in-Stuck c =
+pub returns-in_err-test : goal.returns-in_err-test
+returns-in_err-test c =
     let a = c.args in
-    off (λ p. give (record { along = a.axis; passing = p }))
+    value_up _ c.from_residual.ensures.1
+    (off (λ p. give (record { axis = a.axis; test = p }))
     (symbol_reads _ read_test a.at c.spaces.result c.spaces.ensures.0
-    (no_test c.test.ensures c.in-Stuck.is))
+    (no_value c.test.ensures c.in_err-test.was)))

@@ -1,12 +1,13 @@
 -- `step_words::test` meets its contract.
 use borrow.Author.Rules.{rules}
 use native.Mathlib.Omega.{arith}
-use mathlib.Core.Path.{◌≡◌, refl, sym, ◌∙◌, ap}
+use mathlib.Core.Path.{refl}
 use Rattle.laws.specs.Characters.{first}
 use Rattle.parsing.specs.Reader.{rest, read_test}
 use Rattle.spelling.proofs.Bridging.{looks_first, looks_there}
 use Rattle.spelling.proofs.Answering.{by_left}
-use Rattle.spelling.specs.Answers.{test_told, test_place}
+use Rattle.numerals.specs.Answers.{read_place}
+use Rattle.spelling.specs.Answers.{value_told}
 use Rattle.spelling.proofs.Choosing.{test_other}
 use Rattle.step_words.proofs.test.Goals as goal
 
@@ -27,7 +28,7 @@ returns-in-110 c =
     c.node.ensures
 
 pub returns-in-42 : goal.returns-in-42
-unfolding first rest test_told test_place
+unfolding first rest value_told read_place
 returns-in-42 c =
     let there = looks_there _ _ _ c.byte-b.ensures 42 c.in-42.is (omega arith) in
     by_left read_test there.1 refl (record { means = refl; inside = there.0 })
@@ -42,7 +43,7 @@ returns-in-116 c =
     c.test_called.ensures
 
 pub returns-in_default : goal.returns-in_default
-unfolding test_told test_place
+unfolding value_told read_place
 returns-in_default c =
     record {
       means = test_other _ _ (looks_first _ _ _ c.byte-b.ensures) (search rules);

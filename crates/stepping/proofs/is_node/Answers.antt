@@ -1,25 +1,15 @@
--- `stepping::is_node` meets its contract.
-use mathlib.Core.Path.{sym, ap, ◌∙◌}
+-- `stepping::is_node` meets its contract: a cell that holds a node has a rank.
+use mathlib.Core.Path.{ap, ◌∙◌}
 use mir.Facts.{to_z-of_z}
 use Rattle.meaning.specs.World.{rank_of}
-use Rattle.nodesets.specs.Nodes.{found}
 use Rattle.tables.specs.Laying.{succeeds}
 use Rattle.stepping.specs.Marking.{is_node}
-use borrow.Author.Rules.{rules}
+use Rattle.stepping.proofs.Nodes.{some_found}
 use Rattle.stepping.proofs.is_node.Goals as goal
 
-pub returns-in-At : goal.returns-in-At
-unfolding is_node succeeds
-returns-in-At c =
+pub returns : goal.returns
+unfolding is_node
+returns c =
     λ d e.
-    ap succeeds
-    (sym (ap found c.in-At.is) ∙ c.rank_of.ensures d e
-    ∙ ap (rank_of d) (to_z-of_z c.ranges.cell))
-
-pub returns-in-NotANode : goal.returns-in-NotANode
-unfolding is_node succeeds
-returns-in-NotANode c =
-    λ d e.
-    ap succeeds
-    (sym (ap found c.in-NotANode.is) ∙ c.rank_of.ensures d e
-    ∙ ap (rank_of d) (to_z-of_z c.ranges.cell))
+    c.is_some.ensures ∙ some_found c.rank_of.result
+    ∙ ap succeeds (c.rank_of.ensures d e ∙ ap (rank_of d) (to_z-of_z c.ranges.cell))

@@ -1,7 +1,6 @@
 -- `stepping::iteration_of` meets its contract: the cell is read back from its bits.
 use mathlib.Core.Path.{◌∙◌}
 use mir.Syntax.{w64}
-use borrow.Author.Rules.{rules}
 use Rattle.cells.proofs.Bits.{read_back}
 use Rattle.stepping.proofs.iteration_of.Goals as goal
 

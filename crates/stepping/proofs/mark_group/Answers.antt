@@ -1,17 +1,14 @@
--- `stepping::mark_group` meets its contract. The invariant: the iteration's rows before row i hold nodes, and exactly
--- these are marked (`Marking`). The measure is how many rows are left.
-use Prim.Native.Nat.{◌-◌, ◌≤◌, ◌<◌}
+-- `stepping::mark_group` meets its contract, row by row.
+use Prim.Native.Nat.{◌≤◌, ◌<◌}
 use mathlib.Core.Path.{◌≡◌, refl, sym, ap, ◌∙◌}
 use native.Mathlib.Omega.{arith}
-use lib.ListN.{length, drop}
-use Rattle.meaning.specs.Catalogue.{Catalogue}
+use lib.ListN.{length}
 use Rattle.meaning.specs.Operators.{Table, column, group_of}
 use Rattle.tables.specs.Layout.{table_at}
-use Rattle.members.specs.Grouped.{in_front}
 use Rattle.tables.proofs.Reading.{length_table}
 use Rattle.members.proofs.Members.{group_none}
-use Rattle.stepping.proofs.Nodes.{Marking, marking_start, marking_more, marking_fails, marking_end}
-use borrow.Author.Rules.{rules}
+use Rattle.std.proofs.lemmas.Result.{err_from_is_err_and}
+use Rattle.stepping.proofs.Nodes.{marking_start, marking_more, marking_fails, marking_end}
 use Rattle.stepping.proofs.mark_group.Goals as goal
 
 pub loop-i-init : goal.loop-i-init
@@ -23,28 +20,26 @@ loop-i-init c =
           (rw e c.clear.ensures),
     )
 
-pub mark_row-one-requires : goal.mark_row-one-requires
-mark_row-one-requires c =
+pub mark_row-requires : goal.mark_row-requires
+mark_row-requires c =
     let long : length c.loop-i.marks ≡ length c.args.marks.now = c.loop-i.invariant.0 ∙ c.clear.auto.marks in
-    let wide : c.args.rows ≤ length c.loop-i.marks = omega (arith, long, c.requires.inside.3) in
-    (c.requires.inside.0, c.requires.inside.1, c.loop-i-test.true, wide)
+    (c.requires.inside.0, c.requires.inside.1, omega arith, omega (arith, long, c.requires.inside.3))
 
-pub returns-in_default : goal.returns-in_default
-returns-in_default c =
-    let here : c.loop-i.i < length (table_at c.args.work.now c.args.s) = omega (arith, length_table c.args.work.now c.args.s, c.loop-i-test.true) in
-    λ d e.
-    marking_fails d _ _ _ _ _ _ here (c.loop-i.invariant.1 d e) _ c.in_default.is
-    (c.mark_row-one.ensures d e)
+pub returns-in_err-mark_row : goal.returns-in_err-mark_row
+returns-in_err-mark_row c =
+    let here : c.loop-i.i < length (table_at c.args.work.now c.args.s) =
+    omega (arith, length_table c.args.work.now c.args.s) in
+    let p = err_from_is_err_and c.from_residual.result c.from_residual.ensures.1 in
+    λ d e. rw p.1 (marking_fails d _ _ _ _ _ _ here (c.loop-i.invariant.1 d e) _ (c.in_err-mark_row.ensures d e))
 
 pub loop-i-preserved : goal.loop-i-preserved
 loop-i-preserved c =
     let long : length c.loop-i.marks ≡ length c.args.marks.now = c.loop-i.invariant.0 ∙ c.clear.auto.marks in
     let wide : c.args.rows ≤ length c.loop-i.marks = omega (arith, long, c.requires.inside.3) in
-    let here : c.loop-i.i < length (table_at c.args.work.now c.args.s) = omega (arith, length_table c.args.work.now c.args.s, c.loop-i-test.true) in (
-      c.mark_row-one.auto.marks ∙ c.loop-i.invariant.0,
-      λ d e.
-          marking_more d _ _ _ _ _ _ here (c.loop-i.invariant.1 d e) _ c.in-AllNodes.is (rw e wide)
-          (c.mark_row-one.ensures d e),
+    let here : c.loop-i.i < length (table_at c.args.work.now c.args.s) =
+    omega (arith, length_table c.args.work.now c.args.s) in (
+      c.mark_row.auto.marks ∙ c.loop-i.invariant.0,
+      λ d e. marking_more d _ _ _ _ _ _ here (c.loop-i.invariant.1 d e) (rw e wide) (c.in_ok-mark_row.ensures d e),
     )
 
 pub returns : goal.returns

@@ -3,32 +3,32 @@ use mathlib.Core.Path.{◌≡◌, refl, sym, ap₂, ◌∙◌, subst}
 use mathlib.Core.List.{[]}
 use lib.IntN.{ℤ}
 use lib.ListN.{get_or}
-use borrow.Author.Tests.{not-true, not-false}
 use mir.Syntax.{w64}
 use mir.Facts.{to_z-of_z}
 use Rattle.cells.specs.Cell.{same}
 use Rattle.cells.proofs.Bits.{read_back}
-use Rattle.nodesets.specs.declared.Marked.TheVariants.{AllNodes}
+use Rattle.std.specs.Prelude.{Ok}
 use Rattle.nodesets.specs.Nodes.{FromOne}
 use Rattle.tables.specs.Layout.{table_at}
 use Rattle.tables.specs.Order.{cell_at}
 use Rattle.stepping.proofs.Nodes.{from_yes, from_no}
-use borrow.Author.Rules.{rules}
 use Rattle.stepping.proofs.mark_row.Goals as goal
 
 pub returns-then-not-same : goal.returns-then-not-same
 returns-then-not-same c =
-    let equal : c.same.result ≡ same c.args.iteration.0 (cell_at (table_at c.args.work.now c.args.s) 0 c.args.i) = c.same.ensures
+    let equal : c.same.result ≡ same c.args.iteration.0 (cell_at (table_at c.args.work.now c.args.s) 0 c.args.i) =
+    c.same.ensures
     ∙ ap₂ same (to_z-of_z {w = w64} (record { sfits = c.struct_told-1.given.0.1 }))
     (read_back w64 c.cell_at.type_inv ∙ c.cell_at.ensures) in
     let r = get_or (table_at c.args.work.now c.args.s) c.args.i [] in
     λ d e.
-    from_no d c.args.iteration.0 r AllNodes c.args.marks.now c.args.marks.now
+    from_no d c.args.iteration.0 r (Ok tt) c.args.marks.now c.args.marks.now
     (sym equal ∙ c.if-not-same.true) refl refl
 
 pub returns : goal.returns
 returns c =
-    let equal : c.same.result ≡ same c.args.iteration.0 (cell_at (table_at c.args.work.now c.args.s) 0 c.args.i) = c.same.ensures
+    let equal : c.same.result ≡ same c.args.iteration.0 (cell_at (table_at c.args.work.now c.args.s) 0 c.args.i) =
+    c.same.ensures
     ∙ ap₂ same (to_z-of_z {w = w64} (record { sfits = c.struct_told-1.given.0.1 }))
     (read_back w64 c.cell_at.type_inv ∙ c.cell_at.ensures) in
     let r = get_or (table_at c.args.work.now c.args.s) c.args.i [] in

@@ -175,19 +175,19 @@ expression-overflow_sub-left t c =
 pub expression-cell_of-requires : goal.expression-cell_of-requires
 expression-cell_of-requires t c =
     kind_small c.args.query.now c.args.at c.args.depth c.args.pen c.requires
-    c.read.result c.read.ensures c.in-Sound.found c.in-Sound.is c.in-Literal.is
+    c.read.result c.read.ensures c.in-Some.found c.in-Some.is c.in-Literal.is
 
 pub expression-literal-requires : goal.expression-literal-requires
 unfolding trees Code.record_of
 expression-literal-requires t c =
     room_less 2 (leaf_room (QL _ _) _ (kind_parses c.args.query.now c.args.at c.args.depth c.args.pen c.requires
-    c.read.result c.read.ensures c.in-Sound.found c.in-Sound.is c.in-Literal.is) refl c.requires) (lit≤ tt)
+    c.read.result c.read.ensures c.in-Some.found c.in-Some.is c.in-Literal.is) refl c.requires) (lit≤ tt)
 
 pub expression-empty-requires : goal.expression-empty-requires
 unfolding trees Code.record_of
 expression-empty-requires t c =
     room_less 3 (leaf_room (QE _) _ (kind_parses c.args.query.now c.args.at c.args.depth c.args.pen c.requires
-    c.read.result c.read.ensures c.in-Sound.found c.in-Sound.is c.in-Empty.is) refl c.requires) (lit≤ tt)
+    c.read.result c.read.ensures c.in-Some.found c.in-Some.is c.in-Empty.is) refl c.requires) (lit≤ tt)
 
 pub expression-overflow_cast-k : goal.expression-overflow_cast-k
 unfolding Ranged Code.record_of
@@ -195,14 +195,14 @@ expression-overflow_cast-k t c =
     omega (
       arith,
       kind_ranged c.args.query.now c.args.at c.args.depth c.args.pen c.requires
-          c.read.result c.read.ensures c.in-Sound.found c.in-Sound.is c.in-Root.is,
+          c.read.result c.read.ensures c.in-Some.found c.in-Some.is c.in-Root.is,
     )
 
 pub expression-root-requires : goal.expression-root-requires
 unfolding trees Code.record_of
 expression-root-requires t c =
     room_less 2 (leaf_room (QR _ _) _ (kind_parses c.args.query.now c.args.at c.args.depth c.args.pen c.requires
-    c.read.result c.read.ensures c.in-Sound.found c.in-Sound.is c.in-Root.is) refl c.requires) (lit≤ tt)
+    c.read.result c.read.ensures c.in-Some.found c.in-Some.is c.in-Root.is) refl c.requires) (lit≤ tt)
 
 pub expression-sequence-requires : goal.expression-sequence-requires
 unfolding trees Code.record_of tr
@@ -211,9 +211,9 @@ expression-sequence-requires t c =
     let rd = parse (a.depth - 1) a.query.now in (
       omega (arith, deep c.args.query.now c.args.at c.args.depth c.args.pen c.requires),
       two_asked (record { count = λ a b. refl; plan = λ a b n l e. refl }) rd
-          c.in-Sound.found.next
+          c.in-Some.found.next
           (kind_parses c.args.query.now c.args.at c.args.depth c.args.pen c.requires
-          c.read.result c.read.ensures c.in-Sound.found c.in-Sound.is c.in-Sequence.is) c.requires,
+          c.read.result c.read.ensures c.in-Some.found c.in-Some.is c.in-Sequence.is) c.requires,
     )
 
 pub expression-let_in-requires : goal.expression-let_in-requires
@@ -223,9 +223,9 @@ expression-let_in-requires t c =
     let rd = parse (a.depth - 1) a.query.now in (
       omega (arith, deep c.args.query.now c.args.at c.args.depth c.args.pen c.requires),
       two_asked (record { count = λ a b. refl; plan = λ a b n l e. refl }) rd
-          c.in-Sound.found.next
+          c.in-Some.found.next
           (kind_parses c.args.query.now c.args.at c.args.depth c.args.pen c.requires
-          c.read.result c.read.ensures c.in-Sound.found c.in-Sound.is c.in-Let.is) c.requires,
+          c.read.result c.read.ensures c.in-Some.found c.in-Some.is c.in-Let.is) c.requires,
     )
 
 pub expression-for_each-requires : goal.expression-for_each-requires
@@ -235,9 +235,9 @@ expression-for_each-requires t c =
     let rd = parse (a.depth - 1) a.query.now in (
       omega (arith, deep c.args.query.now c.args.at c.args.depth c.args.pen c.requires),
       two_asked (record { count = λ a b. refl; plan = λ a b n l e. refl }) rd
-          c.in-Sound.found.next
+          c.in-Some.found.next
           (kind_parses c.args.query.now c.args.at c.args.depth c.args.pen c.requires
-          c.read.result c.read.ensures c.in-Sound.found c.in-Sound.is c.in-For.is) c.requires,
+          c.read.result c.read.ensures c.in-Some.found c.in-Some.is c.in-For.is) c.requires,
     )
 
 pub expression-choose-requires : goal.expression-choose-requires
@@ -247,9 +247,9 @@ expression-choose-requires t c =
     let rd = parse (a.depth - 1) a.query.now in (
       omega (arith, deep c.args.query.now c.args.at c.args.depth c.args.pen c.requires),
       three_asked (record { count = λ c a b. refl; plan = λ c a b n l e. refl }) rd
-          c.in-Sound.found.next
+          c.in-Some.found.next
           (kind_parses c.args.query.now c.args.at c.args.depth c.args.pen c.requires
-          c.read.result c.read.ensures c.in-Sound.found c.in-Sound.is c.in-If.is) c.requires,
+          c.read.result c.read.ensures c.in-Some.found c.in-Some.is c.in-If.is) c.requires,
     )
 
 pub expression-apply-requires : goal.expression-apply-requires
@@ -259,9 +259,9 @@ expression-apply-requires t c =
     let rd = parse (a.depth - 1) a.query.now in (
       omega (arith, deep c.args.query.now c.args.at c.args.depth c.args.pen c.requires),
       two_asked (record { count = λ a b. refl; plan = λ a b n l e. refl }) rd
-          c.in-Sound.found.next
+          c.in-Some.found.next
           (kind_parses c.args.query.now c.args.at c.args.depth c.args.pen c.requires
-          c.read.result c.read.ensures c.in-Sound.found c.in-Sound.is c.in-Apply.is) c.requires,
+          c.read.result c.read.ensures c.in-Some.found c.in-Some.is c.in-Apply.is) c.requires,
     )
 
 pub expression-count-requires : goal.expression-count-requires
@@ -270,9 +270,9 @@ expression-count-requires t c =
     let a = c.args in
     let rd = parse (a.depth - 1) a.query.now in (
       omega (arith, deep c.args.query.now c.args.at c.args.depth c.args.pen c.requires),
-      one_asked (record { count = λ a. refl; plan = λ a n l e. refl }) (rd c.in-Sound.found.next)
+      one_asked (record { count = λ a. refl; plan = λ a n l e. refl }) (rd c.in-Some.found.next)
           (kind_parses c.args.query.now c.args.at c.args.depth c.args.pen c.requires
-          c.read.result c.read.ensures c.in-Sound.found c.in-Sound.is c.in-Count.is) c.requires,
+          c.read.result c.read.ensures c.in-Some.found c.in-Some.is c.in-Count.is) c.requires,
     )
 
 pub expression-values-requires : goal.expression-values-requires
@@ -281,9 +281,9 @@ expression-values-requires t c =
     let a = c.args in
     let rd = parse (a.depth - 1) a.query.now in (
       omega (arith, deep c.args.query.now c.args.at c.args.depth c.args.pen c.requires),
-      one_asked (record { count = λ a. refl; plan = λ a n l e. refl }) (rd c.in-Sound.found.next)
+      one_asked (record { count = λ a. refl; plan = λ a n l e. refl }) (rd c.in-Some.found.next)
           (kind_parses c.args.query.now c.args.at c.args.depth c.args.pen c.requires
-          c.read.result c.read.ensures c.in-Sound.found c.in-Sound.is c.in-Data.is) c.requires,
+          c.read.result c.read.ensures c.in-Some.found c.in-Some.is c.in-Data.is) c.requires,
     )
 
 pub expression-step-requires : goal.expression-step-requires
@@ -292,9 +292,9 @@ expression-step-requires t c =
     let a = c.args in
     let rd = parse (a.depth - 1) a.query.now in (
       omega (arith, deep c.args.query.now c.args.at c.args.depth c.args.pen c.requires),
-      one_asked (record { count = λ a. refl; plan = λ a n l e. refl }) (rd c.in-Sound.found.next)
+      one_asked (record { count = λ a. refl; plan = λ a n l e. refl }) (rd c.in-Some.found.next)
           (kind_parses c.args.query.now c.args.at c.args.depth c.args.pen c.requires
-          c.read.result c.read.ensures c.in-Sound.found c.in-Sound.is c.in-Step.is) c.requires,
+          c.read.result c.read.ensures c.in-Some.found c.in-Some.is c.in-Step.is) c.requires,
     )
 
 pub expression-returns-in-Literal : goal.expression-returns-in-Literal
@@ -303,7 +303,7 @@ expression-returns-in-Literal t c =
     let a = c.args in
     let z = c.cell_of in
     leaf_makes (QL _ _) _ (kind_parses c.args.query.now c.args.at c.args.depth c.args.pen c.requires
-    c.read.result c.read.ensures c.in-Sound.found c.in-Sound.is c.in-Literal.is)
+    c.read.result c.read.ensures c.in-Some.found c.in-Some.is c.in-Literal.is)
     (literal_made a.l a.tables _ z.result _ (record { sfits = z.type_inv }) z.ensures c.literal.ensures)
 
 pub expression-returns-in-Empty : goal.expression-returns-in-Empty
@@ -311,7 +311,7 @@ unfolding trees Code.record_of
 expression-returns-in-Empty t c =
     let a = c.args in
     leaf_makes (QE _) _ (kind_parses c.args.query.now c.args.at c.args.depth c.args.pen c.requires
-    c.read.result c.read.ensures c.in-Sound.found c.in-Sound.is c.in-Empty.is)
+    c.read.result c.read.ensures c.in-Some.found c.in-Some.is c.in-Empty.is)
     (empty_made a.l a.tables _ c.empty.ensures)
 
 pub expression-returns-in-Root : goal.expression-returns-in-Root
@@ -319,7 +319,7 @@ unfolding trees Code.record_of
 expression-returns-in-Root t c =
     let a = c.args in
     leaf_makes (QR _ _) _ (kind_parses c.args.query.now c.args.at c.args.depth c.args.pen c.requires
-    c.read.result c.read.ensures c.in-Sound.found c.in-Sound.is c.in-Root.is)
+    c.read.result c.read.ensures c.in-Some.found c.in-Some.is c.in-Root.is)
     (root_made a.l a.tables _ _ c.root.ensures)
 
 pub expression-returns-in-Variable : goal.expression-returns-in-Variable
@@ -328,9 +328,10 @@ expression-returns-in-Variable t c =
     let a = c.args in
     let e = c.in-Variable.is in
     leaf_makes (QV _ _) _ (kind_parses c.args.query.now c.args.at c.args.depth c.args.pen c.requires
-    c.read.result c.read.ensures c.in-Sound.found c.in-Sound.is e)
-    (variable_made a.at _ _ a.l a.tables _ a.pen c.variable-in-Variable.result (kind_ranged c.args.query.now c.args.at c.args.depth c.args.pen c.requires
-    c.read.result c.read.ensures c.in-Sound.found c.in-Sound.is e)
+    c.read.result c.read.ensures c.in-Some.found c.in-Some.is e)
+    (variable_made a.at _ _ a.l a.tables _ a.pen c.variable-in-Variable.result
+    (kind_ranged c.args.query.now c.args.at c.args.depth c.args.pen c.requires
+    c.read.result c.read.ensures c.in-Some.found c.in-Some.is e)
     c.variable-in-Variable.ensures)
 
 pub expression-returns-in-Sequence : goal.expression-returns-in-Sequence
@@ -338,27 +339,27 @@ unfolding trees Code.record_of tr
 expression-returns-in-Sequence t c =
     let a = c.args in
     let rd = parse (a.depth - 1) a.query.now in
-    two_makes (record { count = λ a b. refl; plan = λ a b n l e. refl }) rd c.in-Sound.found.next
+    two_makes (record { count = λ a b. refl; plan = λ a b n l e. refl }) rd c.in-Some.found.next
     (kind_parses c.args.query.now c.args.at c.args.depth c.args.pen c.requires
-    c.read.result c.read.ensures c.in-Sound.found c.in-Sound.is c.in-Sequence.is) c.sequence.ensures
+    c.read.result c.read.ensures c.in-Some.found c.in-Some.is c.in-Sequence.is) c.sequence.ensures
 
 pub expression-returns-in-Let : goal.expression-returns-in-Let
 unfolding trees Code.record_of tr
 expression-returns-in-Let t c =
     let a = c.args in
     let rd = parse (a.depth - 1) a.query.now in
-    two_makes (record { count = λ a b. refl; plan = λ a b n l e. refl }) rd c.in-Sound.found.next
+    two_makes (record { count = λ a b. refl; plan = λ a b n l e. refl }) rd c.in-Some.found.next
     (kind_parses c.args.query.now c.args.at c.args.depth c.args.pen c.requires
-    c.read.result c.read.ensures c.in-Sound.found c.in-Sound.is c.in-Let.is) c.let_in.ensures
+    c.read.result c.read.ensures c.in-Some.found c.in-Some.is c.in-Let.is) c.let_in.ensures
 
 pub expression-returns-in-For : goal.expression-returns-in-For
 unfolding trees Code.record_of tr
 expression-returns-in-For t c =
     let a = c.args in
     let rd = parse (a.depth - 1) a.query.now in
-    two_makes (record { count = λ a b. refl; plan = λ a b n l e. refl }) rd c.in-Sound.found.next
+    two_makes (record { count = λ a b. refl; plan = λ a b n l e. refl }) rd c.in-Some.found.next
     (kind_parses c.args.query.now c.args.at c.args.depth c.args.pen c.requires
-    c.read.result c.read.ensures c.in-Sound.found c.in-Sound.is c.in-For.is) c.for_each.ensures
+    c.read.result c.read.ensures c.in-Some.found c.in-Some.is c.in-For.is) c.for_each.ensures
 
 pub expression-returns-in-If : goal.expression-returns-in-If
 unfolding trees Code.record_of tr
@@ -366,45 +367,45 @@ expression-returns-in-If t c =
     let a = c.args in
     let rd = parse (a.depth - 1) a.query.now in
     three_makes (record { count = λ c a b. refl; plan = λ c a b n l e. refl }) rd
-    c.in-Sound.found.next
+    c.in-Some.found.next
     (kind_parses c.args.query.now c.args.at c.args.depth c.args.pen c.requires
-    c.read.result c.read.ensures c.in-Sound.found c.in-Sound.is c.in-If.is) c.choose.ensures
+    c.read.result c.read.ensures c.in-Some.found c.in-Some.is c.in-If.is) c.choose.ensures
 
 pub expression-returns-in-Apply : goal.expression-returns-in-Apply
 unfolding trees Code.record_of tr
 expression-returns-in-Apply t c =
     let a = c.args in
     let rd = parse (a.depth - 1) a.query.now in
-    two_makes (record { count = λ a b. refl; plan = λ a b n l e. refl }) rd c.in-Sound.found.next
+    two_makes (record { count = λ a b. refl; plan = λ a b n l e. refl }) rd c.in-Some.found.next
     (kind_parses c.args.query.now c.args.at c.args.depth c.args.pen c.requires
-    c.read.result c.read.ensures c.in-Sound.found c.in-Sound.is c.in-Apply.is) c.apply.ensures
+    c.read.result c.read.ensures c.in-Some.found c.in-Some.is c.in-Apply.is) c.apply.ensures
 
 pub expression-returns-in-Count : goal.expression-returns-in-Count
 unfolding trees Code.record_of tr
 expression-returns-in-Count t c =
     let a = c.args in
     let rd = parse (a.depth - 1) a.query.now in
-    one_makes (record { count = λ a. refl; plan = λ a n l e. refl }) (rd c.in-Sound.found.next)
+    one_makes (record { count = λ a. refl; plan = λ a n l e. refl }) (rd c.in-Some.found.next)
     (kind_parses c.args.query.now c.args.at c.args.depth c.args.pen c.requires
-    c.read.result c.read.ensures c.in-Sound.found c.in-Sound.is c.in-Count.is) c.count.ensures
+    c.read.result c.read.ensures c.in-Some.found c.in-Some.is c.in-Count.is) c.count.ensures
 
 pub expression-returns-in-Data : goal.expression-returns-in-Data
 unfolding trees Code.record_of tr
 expression-returns-in-Data t c =
     let a = c.args in
     let rd = parse (a.depth - 1) a.query.now in
-    one_makes (record { count = λ a. refl; plan = λ a n l e. refl }) (rd c.in-Sound.found.next)
+    one_makes (record { count = λ a. refl; plan = λ a n l e. refl }) (rd c.in-Some.found.next)
     (kind_parses c.args.query.now c.args.at c.args.depth c.args.pen c.requires
-    c.read.result c.read.ensures c.in-Sound.found c.in-Sound.is c.in-Data.is) c.values.ensures
+    c.read.result c.read.ensures c.in-Some.found c.in-Some.is c.in-Data.is) c.values.ensures
 
 pub expression-returns-in-Step : goal.expression-returns-in-Step
 unfolding trees Code.record_of tr
 expression-returns-in-Step t c =
     let a = c.args in
     let rd = parse (a.depth - 1) a.query.now in
-    one_makes (record { count = λ a. refl; plan = λ a n l e. refl }) (rd c.in-Sound.found.next)
+    one_makes (record { count = λ a. refl; plan = λ a n l e. refl }) (rd c.in-Some.found.next)
     (kind_parses c.args.query.now c.args.at c.args.depth c.args.pen c.requires
-    c.read.result c.read.ensures c.in-Sound.found c.in-Sound.is c.in-Step.is) c.step.ensures
+    c.read.result c.read.ensures c.in-Some.found c.in-Some.is c.in-Step.is) c.step.ensures
 
 -- `for_each`
 

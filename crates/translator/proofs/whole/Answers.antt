@@ -1,6 +1,5 @@
 -- `whole` meets its contract: the first operator, the query's, and the last two are the whole plan.
 use native.Mathlib.Omega.{arith}
-use borrow.Author.Rules.{rules}
 use mathlib.Core.Path.{refl}
 use lib.Dec.{lit≤}
 use Rattle.adding.specs.Ruled.{operator_of}
@@ -31,7 +30,7 @@ returns-then-many c =
     whole_wrote c.args.query.now q read c.add-first.ensures c.expression-body.ensures
     c.last-end.ensures in
     let e = many q _ _ _ wrote c.if-many.true in
-    owes_refusal q _ _ _ wrote 2 _ _ e refl c.clear.ensures
+    owes_refusal q _ _ _ wrote 2 _ _ e refl refl
 
 pub returns-then-longer : goal.returns-then-longer
 unfolding operator_of answered
@@ -41,7 +40,7 @@ returns-then-longer c =
     whole_wrote c.args.query.now q read c.add-first.ensures c.expression-body.ensures
     c.last-end.ensures in
     let e = long q _ _ _ wrote (omega arith) c.if-longer.true in
-    owes_refusal q _ _ _ wrote 8 _ _ e refl c.clear-then-longer.ensures
+    owes_refusal q _ _ _ wrote 8 _ _ e refl refl
 
 pub returns : goal.returns
 unfolding operator_of answered
@@ -51,5 +50,5 @@ returns c =
     whole_wrote c.args.query.now q read c.add-first.ensures c.expression-body.ensures
     c.last-end.ensures in (
       fits_answer q _ _ _ wrote c.if-many.false c.if-longer.false,
-      fits_left q _ _ _ wrote c.if-many.false c.if-longer.false _ c.clear-2.ensures,
+      fits_left q _ _ _ wrote c.if-many.false c.if-longer.false _ refl,
     )

@@ -1,7 +1,7 @@
 -- The cycle of the reader: what is left of the text falls from a part to the parts inside it, and from a level of the
 -- grammar to the next tighter one. The invariant of `more`: what the loop still gives of the bytes behind `start` is
 -- what the whole gives of those that stood there.
-use Rattle.std.proofs.Common.{◌≡◌, List, ℕ, ◌≤◌, length, drop, ◌+◌, ◌-◌, ◌*◌, ◌<◌}
+use Rattle.std.proofs.Common.{◌≡◌, List, ℕ, ◌≤◌, length, drop, ◌+◌, ◌-◌, ◌*◌}
 use Rattle.operands.proofs.Stepping.{Runs}
 use Rattle.parsing.specs.Reader.{readers}
 use Rattle.recording.specs.Recorded.{most_bytes}
@@ -46,16 +46,22 @@ decreases-whole l = l.left * 32 + (5 * (4 - level_of l.chain) + 4)
 
 abbrev pub invariant-more-loop-ends : goal.invariant-more-loop-ends
 invariant-more-loop-ends l =
-    (l.at ≤ length l.text)
-    × (length l.query ≡ most_bytes)
-    × (l.made ≤ most_bytes)
-    × (l.start ≤ l.made)
-    × (l.made-2 ≤ l.made)
-    × (l.left ≤ l.left-2)
-    × ((ys : List ℕ)
-    → Runs l.initial.query l.query l.start l.made-2 l.made ys (more_of l.chain (readers l.left-2) l.parens l.ends l.compared ys l.initial.next (drop l.at-2 l.text))
-    (λ zs. more_of l.chain (readers l.left) l.parens l.ends l.compared zs l.next (drop l.at l.text)))
+    record {
+      inside : l.part.next ≤ length l.text;
+      long : length l.query ≡ most_bytes;
+      within : l.part.made ≤ most_bytes;
+      behind : l.start ≤ l.part.made;
+      grows : l.initial.part.made ≤ l.part.made;
+      fewer : l.left ≤ l.initial.left;
+      runs :
+          (ys : List ℕ) →
+          Runs l.initial.query l.query l.start l.initial.part.made l.part.made ys
+          (more_of l.chain (readers l.initial.left) l.parens l.ends l.compared ys l.initial.part.behind
+          (drop l.initial.part.next l.text))
+          (λ zs.
+          more_of l.chain (readers l.left) l.parens l.ends l.compared zs l.part.behind
+          (drop l.part.next l.text));
+    }
 
 abbrev pub decreases-more-loop-ends : goal.decreases-more-loop-ends
-decreases-more-loop-ends l =
-    l.left
+decreases-more-loop-ends l = l.left

@@ -1,6 +1,5 @@
 -- `variable` meets its contract: the variable's items stand below the top.
 use Rattle.working_parts.specs.Scopes.{held}
-use borrow.Author.Rules.{rules}
 use Rattle.working_parts.proofs.variable.Goals as goal
 
 pub again-requires : goal.again-requires

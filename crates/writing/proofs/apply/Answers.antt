@@ -13,4 +13,4 @@ put_three-requires c =
 pub returns : goal.returns
 unfolding operator_bytes
 returns c =
-    pens_more c.head-field.ensures (pens_first c.function_number-number.ensures c.put_three.ensures)
+    pens_more c.head-field.ensures (pens_first c.from.ensures c.put_three.ensures)

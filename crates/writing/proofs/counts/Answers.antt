@@ -1,6 +1,5 @@
 -- `counts` meets its contract.
 use Rattle.meaning.specs.Written.{operator_bytes}
-use borrow.Author.Rules.{rules}
 use Rattle.writing.proofs.counts.Goals as goal
 
 pub returns : goal.returns

@@ -1,6 +1,5 @@
 -- `once` meets its contract.
 use Rattle.meaning.specs.Written.{operator_bytes}
-use borrow.Author.Rules.{rules}
 use Rattle.writing.proofs.once.Goals as goal
 
 pub returns : goal.returns

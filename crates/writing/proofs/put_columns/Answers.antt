@@ -6,7 +6,6 @@ use lib.ListN.{length}
 use Rattle.writing.specs.declared.Columns.{Columns}
 use Rattle.writing.specs.Listed.{columns_of}
 use Rattle.pen.proofs.Putting.{pens_more, pens_as}
-use borrow.Author.Rules.{rules}
 use Rattle.writing.proofs.put_columns.Goals as goal
 
 -- what is written

@@ -6,7 +6,6 @@ use lib.ListN.{length}
 use Rattle.writing.specs.declared.Keys.{Keys}
 use Rattle.writing.specs.Listed.{keys_of}
 use Rattle.pen.proofs.Putting.{pens_as}
-use borrow.Author.Rules.{rules}
 use Rattle.writing.proofs.put_keys.Goals as goal
 
 -- what is written

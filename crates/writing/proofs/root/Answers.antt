@@ -1,6 +1,5 @@
 -- `root` meets its contract.
 use Rattle.meaning.specs.Written.{operator_bytes}
-use borrow.Author.Rules.{rules}
 use Rattle.writing.proofs.root.Goals as goal
 
 pub returns : goal.returns

@@ -21,7 +21,7 @@ put2-requires c =
 pub returns : goal.returns
 unfolding operator_bytes
 returns c =
-    let numbers = ap₂ (λ (x y : ℕ). x ∷ y ∷ []) c.axis_number.ensures c.test_number.ensures in
+    let numbers = ap₂ (λ (x y : ℕ). x ∷ y ∷ []) c.from.ensures c.test_number.ensures in
     pens_more c.head-field.ensures
     (pens_more (pens_as numbers c.put_pair-name.ensures)
     (pens_as (ap (bytes_of 2) c.test_name.ensures) c.put2.ensures))

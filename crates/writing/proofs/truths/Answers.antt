@@ -1,6 +1,5 @@
 -- `truths` meets its contract.
 use Rattle.meaning.specs.Written.{operator_bytes}
-use borrow.Author.Rules.{rules}
 use Rattle.writing.proofs.truths.Goals as goal
 
 pub returns : goal.returns

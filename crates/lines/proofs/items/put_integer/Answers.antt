@@ -1,19 +1,11 @@
 -- `lines::items::put_integer` meets its contract: the word, the integer, the line's end.
-use mathlib.Core.Path.{refl, ◌∙◌, ap}
+use mathlib.Core.Path.{ap}
 use native.Mathlib.Omega.{arith}
 use mir.Facts.{to_z-of_z}
 use Rattle.lines.specs.Text.{integer_line}
 use Rattle.pen.proofs.Putting.{pens_more, pens_as}
 use Rattle.pen.proofs.Digits.{signed_end}
 use Rattle.lines.proofs.items.put_integer.Goals as goal
-
-pub put_word-a-requires : goal.put_word-a-requires
-put_word-a-requires c =
-    omega arith
-
-pub put_signed-b-requires : goal.put_signed-b-requires
-put_signed-b-requires c =
-    omega (arith, c.put_word-a.ensures.ends)
 
 pub put-requires : goal.put-requires
 put-requires c =

@@ -1,17 +1,8 @@
 -- `lines::items::put_line` meets its contract: the word, the number, the line's end.
-use mathlib.Core.Path.{◌∙◌}
 use native.Mathlib.Omega.{arith}
 use Rattle.pen.proofs.Putting.{pens_more}
 use Rattle.pen.proofs.Digits.{decimal_end}
 use Rattle.lines.proofs.items.put_line.Goals as goal
-
-pub put_word-a-requires : goal.put_word-a-requires
-put_word-a-requires c =
-    omega arith
-
-pub put_number-b-requires : goal.put_number-b-requires
-put_number-b-requires c =
-    omega (arith, c.put_word-a.ensures.ends)
 
 pub put-requires : goal.put-requires
 put-requires c =

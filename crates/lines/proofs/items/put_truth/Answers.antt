@@ -1,17 +1,9 @@
 -- `lines::items::put_truth` meets its contract, by the boolean.
-use mathlib.Core.Path.{refl, sym, ap}
+use mathlib.Core.Path.{sym, ap}
 use native.Mathlib.Omega.{arith}
 use Rattle.lines.specs.Text.{truth_line}
 use Rattle.pen.proofs.Putting.{pens_as}
 use Rattle.lines.proofs.items.put_truth.Goals as goal
-
-pub put_word-requires : goal.put_word-requires
-put_word-requires c =
-    omega arith
-
-pub put_word-requires-else-b : goal.put_word-requires-else-b
-put_word-requires-else-b c =
-    omega arith
 
 pub returns-then-b : goal.returns-then-b
 unfolding truth_line

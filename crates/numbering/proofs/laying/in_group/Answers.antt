@@ -6,12 +6,13 @@ use Rattle.cells.specs.Cell.{same}
 use Rattle.meaning.specs.Operators.{cell}
 use Rattle.row_order.specs.Order.{from}
 use Rattle.numbering.proofs.Counting.{group_whole, group_by}
+use borrow.Author.Tests.{eq-eqb}
 use borrow.Author.Rules.{rules}
 use Rattle.numbering.proofs.laying.in_group.Goals as goal
 
 pub returns-then-p-eq255 : goal.returns-then-p-eq255
 returns-then-p-eq255 c =
-    sym (group_whole _ _ _ c.if-p-eq255.true)
+    eq-eqb _ _ c.if-p-eq255.true ∙ sym (group_whole _ _ _ c.if-p-eq255.true)
 
 pub returns-else-p-eq255 : goal.returns-else-p-eq255
 unfolding from

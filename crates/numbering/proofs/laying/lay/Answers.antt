@@ -19,13 +19,11 @@ lay_row-requires c =
 
 pub overflow_add-to : goal.overflow_add-to
 overflow_add-to c =
-    let room-left : c.loop-i.to + (c.args.s.width + 1) ≤ length c.loop-i.work = row_room _ _ _ _ _ c.requires _ _ _ _ _ c.loop-i.invariant c.loop-i-test.true in
-    omega (arith, room-left)
+    omega (arith, row_room _ _ _ _ _ c.requires _ _ _ _ _ c.loop-i.invariant c.loop-i-test.true)
 
 pub overflow_add-to-in-loop-i : goal.overflow_add-to-in-loop-i
 overflow_add-to-in-loop-i c =
-    let room-left : c.loop-i.to + (c.args.s.width + 1) ≤ length c.loop-i.work = row_room _ _ _ _ _ c.requires _ _ _ _ _ c.loop-i.invariant c.loop-i-test.true in
-    omega (arith, room-left)
+    omega (arith, row_room _ _ _ _ _ c.requires _ _ _ _ _ c.loop-i.invariant c.loop-i-test.true)
 
 pub loop-i-preserved : goal.loop-i-preserved
 loop-i-preserved c =

@@ -10,7 +10,3 @@ use Rattle.numbering.proofs.laying.lay.Given as goal
 abbrev pub invariant-loop-i : goal.invariant-loop-i
 invariant-loop-i l =
     NumberingTurn l.initial.work l.s l.p l.order l.at l.work l.to l.c l.last l.i
-
-abbrev pub decreases-loop-i : goal.decreases-loop-i
-decreases-loop-i l =
-    l.n - l.i

@@ -1,9 +1,10 @@
 -- `apply` meets its contract: cut, a bad field, or its fields as they stand.
+use Rattle.laws.specs.Attempt.{tried}
+use Rattle.codes.proofs.Numbers.{tried_read}
 use mathlib.Core.Bool.{not}
-use mathlib.Core.Path.{ap}
+use mathlib.Core.Path.{ap, ◌∙◌}
 use Prim.Native.Nat.{◌+◌, ◌≤◌}
 use native.Mathlib.Omega.{arith}
-use borrow.Author.Rules.{rules}
 use lib.ListN.{length}
 use Rattle.plan_records.specs.Arms as Arms
 use Rattle.plan_records.proofs.Sized.{there, cut_reads}
@@ -80,11 +81,12 @@ bounds-plan-at c =
     there a.plan.now a.at 7 f.result f.ensures (ap not c.if-not-fits.false) in
     omega (arith, room)
 
-pub returns-in_default : goal.returns-in_default
-returns-in_default c =
+pub returns-in_err-f : goal.returns-in_err-f
+returns-in_err-f c =
     let a = c.args in
-    let x = c.function_of in
-    apply_bad a.plan.now a.at x.result x.ensures c.in_default.is
+    let x = c.ok in
+    let e = ap tried x.ensures.value ∙ tried_read c.try_from.result ∙ c.try_from.ensures in
+    rw c.from_residual.ensures (apply_bad a.plan.now a.at x.result e c.in_err-f.was)
 
 pub returns : goal.returns
 returns c =
@@ -93,7 +95,8 @@ returns c =
     let w = c.word2-t in
     let y = c.byte-c in
     let z = c.byte-d in
-    let x = c.function_of in
-    apply_sound a.plan.now a.at x.result x.ensures f.result f.ensures (ap not c.if-not-fits.false)
-    w.result y.result z.result w.ensures.0 y.ensures.0 z.ensures.0 c.in-Is.f c.in-Is.is
+    let x = c.ok in
+    let e = ap tried x.ensures.value ∙ tried_read c.try_from.result ∙ c.try_from.ensures in
+    apply_sound a.plan.now a.at x.result e f.result f.ensures (ap not c.if-not-fits.false)
+    w.result y.result z.result w.ensures.0 y.ensures.0 z.ensures.0 c.in_ok-f.f c.in_ok-f.was
     c.sound.result c.sound.ensures

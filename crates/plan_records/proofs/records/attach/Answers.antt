@@ -2,7 +2,6 @@
 use mathlib.Core.Bool.{not}
 use Prim.Native.Nat.{◌+◌, ◌≤◌}
 use native.Mathlib.Omega.{arith}
-use borrow.Author.Rules.{rules}
 use lib.ListN.{length}
 use mathlib.Core.Path.{◌∙◌, ap}
 use mir.Syntax.{w64}

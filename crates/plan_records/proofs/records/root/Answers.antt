@@ -1,11 +1,9 @@
 -- `root` meets its contract: cut, a bad field, or its fields as they stand.
 use mathlib.Core.Bool.{not}
 use Prim.Native.Nat.{◌+◌, ◌≤◌}
-use mathlib.Core.Path.{refl, ap}
+use mathlib.Core.Path.{ap}
 use native.Mathlib.Omega.{arith}
-use borrow.Author.Rules.{rules}
 use lib.ListN.{length}
-use Rattle.cells.specs.Bytes.{byte_at}
 use Rattle.plan_records.specs.Arms as Arms
 use Rattle.plan_records.proofs.Sized.{there, cut_reads}
 use Rattle.plan_records.proofs.Arms.{root_bad, root_sound}
@@ -39,35 +37,31 @@ word2-t-requires c =
     there a.plan.now a.at 5 f.result f.ensures (ap not c.if-not-fits.false) in
     omega (arith, room)
 
-pub overflow_add-byte : goal.overflow_add-byte
-overflow_add-byte c =
+pub overflow_add-at-2 : goal.overflow_add-at-2
+overflow_add-at-2 c =
     let room : c.args.at + 5 ≤ length c.args.plan.now = let a = c.args in
     let f = c.fits in
     there a.plan.now a.at 5 f.result f.ensures (ap not c.if-not-fits.false) in
     omega (arith, room)
 
-pub bounds-plan-at : goal.bounds-plan-at
-bounds-plan-at c =
+pub byte-k-requires : goal.byte-k-requires
+byte-k-requires c =
     let room : c.args.at + 5 ≤ length c.args.plan.now = let a = c.args in
     let f = c.fits in
     there a.plan.now a.at 5 f.result f.ensures (ap not c.if-not-fits.false) in
     omega (arith, room)
-
-pub overflow_cast-k : goal.overflow_cast-k
-overflow_cast-k c =
-    let a = c.args in
-    omega (arith, c.type_inv.plan (a.at + 4))
 
 pub returns-in-0 : goal.returns-in-0
 returns-in-0 c =
     let a = c.args in
-    root_bad a.plan.now a.at (byte_at a.plan.now (a.at + 4)) refl c.in-0.is
+    root_bad a.plan.now a.at c.byte-k.result c.byte-k.ensures.0 c.in-0.is
 
-pub returns-in-1-to-255 : goal.returns-in-1-to-255
-returns-in-1-to-255 c =
+pub returns-in_default : goal.returns-in_default
+returns-in_default c =
     let a = c.args in
     let f = c.fits in
     let w = c.word2-t in
-    root_sound a.plan.now a.at (byte_at a.plan.now (a.at + 4)) refl f.result f.ensures (ap not c.if-not-fits.false)
-    (λ h. omega arith) (omega (arith, c.type_inv.plan (a.at + 4)))
+    let k = c.byte-k in
+    root_sound a.plan.now a.at k.result k.ensures.0 f.result f.ensures (ap not c.if-not-fits.false)
+    (λ h. omega arith) k.ensures.1
     w.result w.ensures.0 c.sound.result c.sound.ensures

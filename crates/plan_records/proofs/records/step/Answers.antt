@@ -1,9 +1,10 @@
 -- `step` meets its contract: cut, a bad field, or its fields as they stand.
+use Rattle.laws.specs.Attempt.{tried}
+use Rattle.codes.proofs.Numbers.{tried_read}
 use mathlib.Core.Bool.{not}
-use mathlib.Core.Path.{ap}
+use mathlib.Core.Path.{ap, ◌∙◌}
 use Prim.Native.Nat.{◌+◌, ◌≤◌}
 use native.Mathlib.Omega.{arith}
-use borrow.Author.Rules.{rules}
 use lib.ListN.{length}
 use Rattle.plan_records.specs.Arms as Arms
 use Rattle.plan_records.proofs.Sized.{there, cut_reads}
@@ -52,11 +53,12 @@ bounds-plan-at c =
     there a.plan.now a.at 8 f.result f.ensures (ap not c.if-not-fits.false) in
     omega (arith, room)
 
-pub returns-in_default : goal.returns-in_default
-returns-in_default c =
+pub returns-in_err-axis : goal.returns-in_err-axis
+returns-in_err-axis c =
     let a = c.args in
-    let x = c.axis_of in
-    step_no_axis a.plan.now a.at x.result x.ensures c.in_default.is
+    let x = c.ok in
+    let e = ap tried x.ensures.value ∙ tried_read c.try_from.result ∙ c.try_from.ensures in
+    rw c.from_residual.ensures (step_no_axis a.plan.now a.at x.result e c.in_err-axis.was)
 
 pub overflow_add-at-3 : goal.overflow_add-at-3
 overflow_add-at-3 c =
@@ -86,23 +88,26 @@ word2-requires c =
     there a.plan.now a.at 8 f.result f.ensures (ap not c.if-not-fits.false) in
     omega (arith, room)
 
-pub returns-in_default-test_of : goal.returns-in_default-test_of
-returns-in_default-test_of c =
+pub returns-in_err-test : goal.returns-in_err-test
+returns-in_err-test c =
     let a = c.args in
-    let x = c.axis_of in
+    let x = c.ok in
+    let e = ap tried x.ensures.value ∙ tried_read c.try_from.result ∙ c.try_from.ensures in
     let n = c.word2 in
     let y = c.test_of in
-    step_no_test a.plan.now a.at x.result x.ensures n.result n.ensures.0 y.result y.ensures
-    c.in-Is.axis c.in-Is.is c.in_default-test_of.is
+    rw c.from_residual-in_err-test.ensures
+    (step_no_test a.plan.now a.at x.result e n.result n.ensures.0 y.result y.ensures
+    c.in_ok-axis.axis c.in_ok-axis.was c.in_err-test.was)
 
 pub returns : goal.returns
 returns c =
     let a = c.args in
     let f = c.fits in
     let w = c.word2-t in
-    let x = c.axis_of in
+    let x = c.ok in
+    let e = ap tried x.ensures.value ∙ tried_read c.try_from.result ∙ c.try_from.ensures in
     let n = c.word2 in
     let y = c.test_of in
-    step_sound a.plan.now a.at x.result x.ensures n.result n.ensures.0 y.result y.ensures
-    c.in-Is.axis c.in-Is.is f.result f.ensures (ap not c.if-not-fits.false) w.result w.ensures.0 c.in-Is-test_of.test c.in-Is-test_of.is
-    c.sound.result c.sound.ensures
+    step_sound a.plan.now a.at x.result e n.result n.ensures.0 y.result y.ensures
+    c.in_ok-axis.axis c.in_ok-axis.was f.result f.ensures (ap not c.if-not-fits.false) w.result w.ensures.0
+    c.in_ok-test.test c.in_ok-test.was c.sound.result c.sound.ensures

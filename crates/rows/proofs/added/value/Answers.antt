@@ -1,35 +1,41 @@
 -- `rows::added::value` meets its contract: the cell is worked out, and the row laid with it.
+use Prim.Native.Nat.{ℕ, ◌+◌, ◌<◌}
+use mathlib.Core.List.{List}
 use mathlib.Core.Path.{◌≡◌, sym, ap, ◌∙◌}
 use native.Mathlib.Omega.{arith}
+use lib.IntN.{ℤ, pos}
+use lib.ListN.{get_or}
 use mir.Syntax.{w64}
 use mir.Facts.{to_z-of_z}
 use mir.Val.{SFits}
+use Rattle.laws.specs.Attempt.{Attempt}
 use Rattle.laws.specs.Rows.{row}
-use Rattle.meaning.specs.Catalogue.{catalogue_of}
+use Rattle.meaning.specs.Catalogue.{Catalogue}
 use Rattle.meaning.specs.Operators.{cell}
 use Rattle.meaning.specs.World as World
 use Rattle.items.specs.Answers.{tried}
-use Rattle.tables.proofs.Promise.{owes_cell, owes_none}
+use Rattle.tables.proofs.Promise.{owes_cell, owes_gone}
 use Rattle.tables.proofs.Reading.{cell_read}
 use borrow.Author.Rules.{rules}
 use Rattle.rows.proofs.added.value.Goals as goal
 
-pub returns-in_default : goal.returns-in_default
-unfolding tried
-returns-in_default c =
-    let cell-is : let g = c.args in tried c.value-tried.result ≡ World.value (catalogue_of g.doc.now g.rows) (cell (row g.work.now g.a g.w) g.k) = c.value-tried.ensures
-    ∙ ap (World.value _) (to_z-of_z {w = w64} (record { sfits = c.value-arg-1.given })
-    ∙ sym (cell_read _ _ _ _ (omega arith))) in
-    owes_none _ _ _ _ _ _ (sym (ap tried c.in_default.is) ∙ cell-is)
+-- what is worked out from the cells that were read is worked out from the row's
+worked :
+    (o : Attempt ℤ) (g : Catalogue) (x : ℤ) (xs : List ℤ) (a w k : ℕ) → o ≡ World.value g x →
+    x ≡ get_or xs (a + k) (pos 0) → k < w → o ≡ World.value g (cell (row xs a w) k)
+worked o g x xs a w k e p h = e ∙ ap (World.value g) (p ∙ sym (cell_read xs a w k h))
+
+pub returns-in_err-z : goal.returns-in_err-z
+returns-in_err-z c =
+    let h = c.in_err-z.ensures in
+    let is = worked _ _ _ _ _ _ _ c.value-tried.ensures (to_z-of_z {w = w64} (record { sfits = c.value-arg-1.given }))
+    (omega arith) in
+    owes_gone _ _ _ _ _ _ c.value-tried.result c.in_err-z.field-0.0 c.from_residual.result c.from_residual.ensures.1
+    h.value h.ok_part (sym is ∙ ap tried h.ok_part)
 
 pub returns : goal.returns
-unfolding tried
 returns c =
-    let cell-is : let g = c.args in tried c.value-tried.result ≡ World.value (catalogue_of g.doc.now g.rows) (cell (row g.work.now g.a g.w) g.k) = c.value-tried.ensures
-    ∙ ap (World.value _) (to_z-of_z {w = w64} (record { sfits = c.value-arg-1.given })
-    ∙ sym (cell_read _ _ _ _ (omega arith))) in
-    let narrow : SFits w64 c.in-Gives.z = search rules in
-    owes_cell _ _ _ _ _ _ _ _ _ _
-    (sym (ap tried c.in-Gives.is)
-    ∙ cell-is)
-    (to_z-of_z narrow) c.attach.ensures
+    let narrow : SFits w64 c.in_ok-z.z = search rules in
+    let is = worked _ _ _ _ _ _ _ c.value-tried.ensures (to_z-of_z {w = w64} (record { sfits = c.value-arg-1.given }))
+    (omega arith) in
+    owes_cell _ _ _ _ _ _ _ _ _ _ (sym (ap tried c.in_ok-z.ensures.ok_part) ∙ is) (to_z-of_z narrow) c.attach.ensures

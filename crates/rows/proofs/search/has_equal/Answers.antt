@@ -1,13 +1,12 @@
 -- `rows::search::has_equal` meets its contract. The search: from the row at b on, some row is equal exactly where one
 -- of the whole table is. The comparison: from cell i on, the two rows are equal exactly where they are. The measures
 -- are the rows and the cells that are left.
-use Prim.Native.Nat.{◌+◌, ◌-◌, ◌*◌, ◌≤◌}
+use Prim.Native.Nat.{◌+◌}
 use mathlib.Core.Path.{◌≡◌, refl, sym, ap, ap₂, ◌∙◌}
-use mathlib.Core.Logic.{⊎_elim}
-use borrow.Author.Tests.{not-true, not-false, le-ltb, lt-ltb}
+use borrow.Author.Tests.{le-ltb, lt-ltb}
 use native.Mathlib.Omega.{arith}
 use lib.IntN.{pos}
-use lib.ListN.{length, get_or}
+use lib.ListN.{get_or}
 use mir.Facts.{to_z-of_z}
 use Rattle.cells.specs.Cell.{same}
 use Rattle.laws.specs.Lists.{any}
@@ -15,9 +14,7 @@ use Rattle.laws.specs.Rows.{row, rows_at}
 use Rattle.meaning.specs.Operators.{same_row}
 use Rattle.tables.specs.Layout.{table_at, Inside}
 use Rattle.tables.proofs.Unrolled.{past_first, table_rows, any_found, any_next, any_none}
-use Rattle.rows.specs.Comparing.{rest_same}
 use Rattle.rows.proofs.Comparing.{cells_all, cells_same, cells_differ, cells_through}
-use borrow.Author.Rules.{rules}
 use mir.Syntax.{w64}
 use Rattle.rows.proofs.search.has_equal.Goals as goal
 use Rattle.rows.proofs.search.has_equal.Goals.{else-search-test, then-search-test+then-i-w}
@@ -31,45 +28,24 @@ pub loop-i-init : goal.loop-i-init
 loop-i-init c =
     (omega arith, cells_all _ _ _ _)
 
-pub overflow_add-a : goal.overflow_add-a
-overflow_add-a c =
-    omega arith
-
-pub offset_bounds-work-a : goal.offset_bounds-work-a
-offset_bounds-work-a c =
-    omega arith
-
-pub bounds-work-a : goal.bounds-work-a
-bounds-work-a c =
-    omega arith
-
 pub overflow_add-b : goal.overflow_add-b
 overflow_add-b c =
-    let first : c.search.left * c.args.w ≡ c.args.w + (c.search.left - 1) * c.args.w = past_first _ _ c.search-test.true in
-    omega (arith, first)
+    omega (arith, past_first c.search.left c.args.w c.search-test.true)
 
 pub offset_bounds-work-b : goal.offset_bounds-work-b
 offset_bounds-work-b c =
-    let first : c.search.left * c.args.w ≡ c.args.w + (c.search.left - 1) * c.args.w = past_first _ _ c.search-test.true in
-    omega (arith, first)
+    omega (arith, past_first c.search.left c.args.w c.search-test.true)
 
 pub bounds-work-b : goal.bounds-work-b
 bounds-work-b c =
-    let first : c.search.left * c.args.w ≡ c.args.w + (c.search.left - 1) * c.args.w = past_first _ _ c.search-test.true in
-    omega (arith, first)
-
-pub overflow_add-i : goal.overflow_add-i
-overflow_add-i c =
-    omega arith
-
-pub loop-i-smaller : goal.loop-i-smaller
-loop-i-smaller c =
-    omega arith
+    omega (arith, past_first c.search.left c.args.w c.search-test.true)
 
 pub loop-i-preserved : goal.loop-i-preserved
 loop-i-preserved c =
-    let first : c.search.left * c.args.w ≡ c.args.w + (c.search.left - 1) * c.args.w = past_first _ _ c.search-test.true in
-    let equal : let xs = c.args.work.now in let i = c.loop-i.i in same (get_or xs (c.args.a + i) (pos 0)) (get_or xs (c.search.b + i) (pos 0)) ≡ c.same.result = sym
+    let first = past_first c.search.left c.args.w c.search-test.true in
+    let xs = c.args.work.now in
+    let i = c.loop-i.i in
+    let equal : same (get_or xs (c.args.a + i) (pos 0)) (get_or xs (c.search.b + i) (pos 0)) ≡ c.same.result = sym
     (c.same.ensures
     ∙ ap₂ same (to_z-of_z {w = w64} (record { sfits = c.same-arg-1.given }))
     (to_z-of_z {w = w64} (record { sfits = c.same-arg-in-loop-i-1.given }))) in (
@@ -81,21 +57,14 @@ loop-i-preserved c =
 
 pub overflow_add-b-in-search : goal.overflow_add-b-in-search
 overflow_add-b-in-search c =
-    let first : c.search.left * c.args.w ≡ c.args.w + (c.search.left - 1) * c.args.w = past_first _ _ c.search-test.true in
-    omega (arith, first)
-
-pub overflow_sub-left : goal.overflow_sub-left
-overflow_sub-left c =
-    omega arith
-
-pub search-smaller : goal.search-smaller
-search-smaller c =
-    omega arith
+    omega (arith, past_first c.search.left c.args.w c.search-test.true)
 
 pub search-preserved : goal.search-preserved
 search-preserved c =
-    let first : c.search.left * c.args.w ≡ c.args.w + (c.search.left - 1) * c.args.w = past_first _ _ c.search-test.true in
-    let equal : let xs = c.args.work.now in let i = c.loop-i.i in same (get_or xs (c.args.a + i) (pos 0)) (get_or xs (c.search.b + i) (pos 0)) ≡ c.same.result = sym
+    let first = past_first c.search.left c.args.w c.search-test.true in
+    let xs = c.args.work.now in
+    let i = c.loop-i.i in
+    let equal : same (get_or xs (c.args.a + i) (pos 0)) (get_or xs (c.search.b + i) (pos 0)) ≡ c.same.result = sym
     (c.same.ensures
     ∙ ap₂ same (to_z-of_z {w = w64} (record { sfits = c.same-arg-1.given }))
     (to_z-of_z {w = w64} (record { sfits = c.same-arg-in-loop-i-1.given }))) in (
@@ -108,7 +77,10 @@ search-preserved c =
 
 pub returns : goal.returns
 returns c =
-    let whole : let xs = c.args.work.now in let p = same_row (row xs c.args.a c.args.w) in any p (rows_at xs c.search.b c.search.left c.args.w) ≡ any p (table_at xs c.args.s) = c.search.invariant.1 ∙ ap (any _) (table_rows _ _ _ c.requires.2) in
+    let xs = c.args.work.now in
+    let p = same_row (row xs c.args.a c.args.w) in
+    let whole : any p (rows_at xs c.search.b c.search.left c.args.w) ≡ any p (table_at xs c.args.s) =
+    c.search.invariant.1 ∙ ap (any _) (table_rows _ _ _ c.requires.2) in
     elim c.search-test.branch [
       | else-search-test w ↦ le-ltb _ _ w.search-test.false ∙ sym (any_none _ _ _ _ _ (omega arith)) ∙ whole
       | then-search-test+then-i-w w ↦

@@ -2,23 +2,12 @@
 -- of the whole table is. The comparison: from cell i on, the two rows are equal exactly where they are. The measures
 -- are the rows and the cells that are left.
 use Prim.Native.Nat.{◌+◌, ◌-◌, ◌*◌, ◌≤◌}
-use mathlib.Core.Path.{◌≡◌, refl, sym, ap, ap₂, ◌∙◌}
-use mathlib.Core.Logic.{⊎_elim}
-use borrow.Author.Tests.{not-true, not-false, le-ltb, lt-ltb}
-use native.Mathlib.Omega.{arith}
-use lib.IntN.{pos}
-use lib.ListN.{length, get_or}
-use mir.Facts.{to_z-of_z}
-use Rattle.cells.specs.Cell.{same}
+use mathlib.Core.Path.{◌≡◌}
+use lib.ListN.{length}
 use Rattle.laws.specs.Lists.{any}
 use Rattle.laws.specs.Rows.{row, rows_at}
 use Rattle.meaning.specs.Operators.{same_row}
-use Rattle.tables.specs.Layout.{table_at, Inside}
-use Rattle.tables.proofs.Unrolled.{past_first, table_rows, any_found, any_next, any_none}
 use Rattle.rows.specs.Comparing.{rest_same}
-use Rattle.rows.proofs.Comparing.{cells_all, cells_same, cells_differ, cells_through}
-use borrow.Author.Rules.{rules}
-use mir.Syntax.{w64}
 use Rattle.rows.proofs.search.has_equal.Given as goal
 
 abbrev pub invariant-loop-i : goal.invariant-loop-i
@@ -31,8 +20,9 @@ decreases-loop-i l =
 
 abbrev pub invariant-search : goal.invariant-search
 invariant-search l =
+    let p = same_row (row l.work l.a l.w) in
     (l.b + l.left * l.w ≤ length l.work)
-    × (any (same_row (row l.work l.a l.w)) (rows_at l.work l.b l.left l.w) ≡ any (same_row (row l.work l.a l.w)) (rows_at l.work l.initial.b l.initial.left l.w))
+    × (any p (rows_at l.work l.b l.left l.w) ≡ any p (rows_at l.work l.initial.b l.initial.left l.w))
 
 abbrev pub decreases-search : goal.decreases-search
 decreases-search l =

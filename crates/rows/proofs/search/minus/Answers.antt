@@ -3,7 +3,6 @@ use mathlib.Core.Path.{sym, ◌∙◌}
 use native.Mathlib.Omega.{arith}
 use Rattle.tables.specs.Layout.{Inside}
 use Rattle.tables.proofs.Promise.{owes_then, owes_else, none_laid}
-use borrow.Author.Rules.{rules}
 use Rattle.rows.proofs.search.minus.Goals as goal
 
 pub has_equal-requires : goal.has_equal-requires

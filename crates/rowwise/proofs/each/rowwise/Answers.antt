@@ -23,4 +23,9 @@ returns-then-not-settles c =
 
 pub each_row-requires : goal.each_row-requires
 each_row-requires c =
-    record { inside = c.requires.inside; suits = c.requires.suits; bound = c.requires.bound; settled = settled_all _ _ _ _ _ (sym c.settles.ensures ∙ c.if-not-settles.false) }
+    record {
+      inside = c.requires.inside;
+      suits = c.requires.suits;
+      bound = c.requires.bound;
+      settled = settled_all _ _ _ _ _ (sym c.settles.ensures ∙ c.if-not-settles.false);
+    }

@@ -7,7 +7,7 @@ use Rattle.meaning.specs.World as World
 use Rattle.rowwise.specs.Tasks.{settling, Worked}
 use Rattle.tables.specs.Laying.{succeeds}
 use Rattle.tables.proofs.Reading.{cell_read}
-use Rattle.rowwise.proofs.Tasks.{task_worked, task_settling, settling_other}
+use Rattle.rowwise.proofs.Tasks.{task_worked, task_settling, settling_other, some_succeeds}
 use borrow.Author.Rules.{rules}
 use mir.Syntax.{w64}
 use Rattle.rowwise.proofs.each.settles_row.Goals as goal
@@ -15,62 +15,55 @@ use Rattle.rowwise.proofs.each.settles_row.Goals as goal
 pub overflow_add-a : goal.overflow_add-a
 unfolding Worked
 overflow_add-a c =
-    let worked : let w = c.args.w in (c.in-Apply.k < w) × (c.in-Apply.d < w) = task_worked _ _ c.in-Apply.is _ c.requires.2 in
-    omega (arith, worked)
+    omega (arith, task_worked _ _ c.in-Apply.is _ c.requires.2)
 
 pub offset_bounds-work-a : goal.offset_bounds-work-a
 unfolding Worked
 offset_bounds-work-a c =
-    let worked : let w = c.args.w in (c.in-Apply.k < w) × (c.in-Apply.d < w) = task_worked _ _ c.in-Apply.is _ c.requires.2 in
-    omega (arith, worked)
+    omega (arith, task_worked _ _ c.in-Apply.is _ c.requires.2)
 
 pub bounds-work-a : goal.bounds-work-a
 unfolding Worked
 bounds-work-a c =
-    let worked : let w = c.args.w in (c.in-Apply.k < w) × (c.in-Apply.d < w) = task_worked _ _ c.in-Apply.is _ c.requires.2 in
-    omega (arith, worked)
+    omega (arith, task_worked _ _ c.in-Apply.is _ c.requires.2)
 
 pub overflow_add-a-in-Apply : goal.overflow_add-a-in-Apply
 unfolding Worked
 overflow_add-a-in-Apply c =
-    let worked : let w = c.args.w in (c.in-Apply.k < w) × (c.in-Apply.d < w) = task_worked _ _ c.in-Apply.is _ c.requires.2 in
-    omega (arith, worked)
+    omega (arith, task_worked _ _ c.in-Apply.is _ c.requires.2)
 
 pub offset_bounds-work-a-in-Apply : goal.offset_bounds-work-a-in-Apply
 unfolding Worked
 offset_bounds-work-a-in-Apply c =
-    let worked : let w = c.args.w in (c.in-Apply.k < w) × (c.in-Apply.d < w) = task_worked _ _ c.in-Apply.is _ c.requires.2 in
-    omega (arith, worked)
+    omega (arith, task_worked _ _ c.in-Apply.is _ c.requires.2)
 
 pub bounds-work-a-in-Apply : goal.bounds-work-a-in-Apply
 unfolding Worked
 bounds-work-a-in-Apply c =
-    let worked : let w = c.args.w in (c.in-Apply.k < w) × (c.in-Apply.d < w) = task_worked _ _ c.in-Apply.is _ c.requires.2 in
-    omega (arith, worked)
+    omega (arith, task_worked _ _ c.in-Apply.is _ c.requires.2)
 
 pub overflow_add-a-in-Value : goal.overflow_add-a-in-Value
 unfolding Worked
 overflow_add-a-in-Value c =
-    let worked2 : c.in-Value.k < c.args.w = task_worked _ _ c.in-Value.is _ c.requires.2 in
-    omega (arith, worked2)
+    omega (arith, task_worked _ _ c.in-Value.is _ c.requires.2)
 
 pub offset_bounds-work-a-in-Value : goal.offset_bounds-work-a-in-Value
 unfolding Worked
 offset_bounds-work-a-in-Value c =
-    let worked2 : c.in-Value.k < c.args.w = task_worked _ _ c.in-Value.is _ c.requires.2 in
-    omega (arith, worked2)
+    omega (arith, task_worked _ _ c.in-Value.is _ c.requires.2)
 
 pub bounds-work-a-in-Value : goal.bounds-work-a-in-Value
 unfolding Worked
 bounds-work-a-in-Value c =
-    let worked2 : c.in-Value.k < c.args.w = task_worked _ _ c.in-Value.is _ c.requires.2 in
-    omega (arith, worked2)
+    omega (arith, task_worked _ _ c.in-Value.is _ c.requires.2)
 
 pub returns-in-Apply : goal.returns-in-Apply
 unfolding settling Worked
 returns-in-Apply c =
-    let worked : let w = c.args.w in (c.in-Apply.k < w) × (c.in-Apply.d < w) = task_worked _ _ c.in-Apply.is _ c.requires.2 in
-    c.gives.ensures
+    let worked : (c.in-Apply.k < c.args.w) × (c.in-Apply.d < c.args.w) =
+    task_worked _ _ c.in-Apply.is _ c.requires.2 in
+    c.is_some.ensures
+    ∙ some_succeeds c.arith.result
     ∙ ap succeeds
     (c.arith.ensures
     ∙ ap₂ (World.arith _)
@@ -84,7 +77,8 @@ pub returns-in-Value : goal.returns-in-Value
 unfolding settling Worked
 returns-in-Value c =
     let worked2 : c.in-Value.k < c.args.w = task_worked _ _ c.in-Value.is _ c.requires.2 in
-    c.gives-in-Value.ensures
+    c.is_some-in-Value.ensures
+    ∙ some_succeeds c.value.result
     ∙ ap succeeds
     (c.value.ensures
     ∙ ap (World.value _) (to_z-of_z {w = w64} (record { sfits = c.value-arg-1.given })

@@ -1,11 +1,7 @@
 -- `searching::search::first` meets its contract: one look at the row above `from` says on which side of it to search.
-use Prim.Native.Nat.{◌-◌, ◌≤◌, ◌<◌}
 use mathlib.Core.Path.{refl, sym, ◌∙◌}
 use native.Mathlib.Omega.{arith}
-use lib.ListN.{length}
 use mir.Facts.{to_z-of_z}
-use Rattle.meaning.specs.Operators.{column}
-use Rattle.tables.specs.Layout.{table_at}
 use Rattle.searching.proofs.Passing.{front_none, front_to, back_more, back_end}
 use Rattle.tables.proofs.Reading.{length_rows}
 use Rattle.searching.proofs.Narrowing.{front_cell}
@@ -13,7 +9,11 @@ use Rattle.searching.proofs.search.first.Goals as goal
 
 pub search-requires : goal.search-requires
 search-requires c =
-    record { inside = (c.requires.inside.0, omega arith, omega arith, omega arith); d_value = c.requires.d_value; front = (front_none _ _ _, back_end _ _ _ _ _ _ refl) }
+    record {
+      inside = (c.requires.inside.0, omega arith, omega arith, omega arith);
+      d_value = c.requires.d_value;
+      front = (front_none _ _ _, back_end _ _ _ _ _ _ refl);
+    }
 
 pub returns-then-from-lt1 : goal.returns-then-from-lt1
 returns-then-from-lt1 c =
@@ -25,12 +25,12 @@ passes-requires c =
 
 pub search-requires-then-passes : goal.search-requires-then-passes
 search-requires-then-passes c =
-    let there : 1 ≤ c.args.from → c.args.from - 1 < length (column (table_at c.args.work.now c.args.u) c.args.d) = λ h. omega (arith, length_rows c.args.work.now c.args.u c.args.d) in
     record {
       inside = (c.requires.inside.0, omega arith, omega arith, omega arith);
       d_value = c.requires.d_value;
       front = (
-        front_to _ _ _ c.requires.d_value _ (there (omega arith)) _ (omega arith)
+        front_to _ _ _ c.requires.d_value _ (omega (arith, length_rows c.args.work.now c.args.u c.args.d)) _
+            (omega arith)
             (sym c.passes.ensures ∙ c.if-passes.true),
         back_end _ _ _ _ _ _ refl,
       );
@@ -44,13 +44,12 @@ returns-then-passes c = (
 
 pub search-requires-2 : goal.search-requires-2
 search-requires-2 c =
-    let there : 1 ≤ c.args.from → c.args.from - 1 < length (column (table_at c.args.work.now c.args.u) c.args.d) = λ h. omega (arith, length_rows c.args.work.now c.args.u c.args.d) in
     record {
       inside = (c.requires.inside.0, omega arith, omega arith, omega arith);
       d_value = c.requires.d_value;
       front = (
         front_none _ _ _,
-        back_more _ _ _ c.requires.d_value _ (there (omega arith))
+        back_more _ _ _ c.requires.d_value _ (omega (arith, length_rows c.args.work.now c.args.u c.args.d))
             (sym c.passes.ensures ∙ c.if-passes.false),
       );
     }

@@ -2,7 +2,6 @@
 use mathlib.Core.Path.{refl, sym, ◌∙◌}
 use native.Mathlib.Omega.{arith}
 use mir.Facts.{to_z-of_z}
-use borrow.Author.Tests.{not-false}
 use Rattle.searching.proofs.Passing.{front_equal, back_end}
 use Rattle.searching.proofs.Narrowing.{narrows_whole, narrows_part, front_cell, back_cell}
 use Rattle.searching.proofs.search.part.Goals as goal
@@ -17,7 +16,11 @@ first-start-requires c =
 
 pub search-end-requires : goal.search-end-requires
 search-end-requires c =
-    record { inside = (c.requires.inside.0, omega arith, omega arith, omega arith); d_value = sym c.requires.climbing_value ∙ c.if-not-climbing.false; front = (front_equal _ _ _ c.first-start.ensures.1, back_end _ _ _ _ _ _ refl) }
+    record {
+      inside = (c.requires.inside.0, omega arith, omega arith, omega arith);
+      d_value = sym c.requires.climbing_value ∙ c.if-not-climbing.false;
+      front = (front_equal _ _ _ c.first-start.ensures.1, back_end _ _ _ _ _ _ refl);
+    }
 
 pub returns : goal.returns
 returns c =

@@ -1,19 +1,9 @@
 -- `searching::search::search` meets its contract. The invariant: the rows before lo are passed, those from hi on are
 -- not. The measure is how many rows lie between.
-use Prim.Native.Nat.{◌-◌, ◌≤◌, ◌<◌}
-use mathlib.Core.Path.{◌≡◌, sym, ◌∙◌, subst}
-use native.Mathlib.Omega.{arith}
-use lib.ListN.{length}
-use mir.Syntax.{w64}
-use mir.Val.{to_z}
-use mir.Facts.{to_z-of_z}
+use Prim.Native.Nat.{◌-◌, ◌≤◌}
 use Rattle.meaning.specs.Operators.{column}
 use Rattle.tables.specs.Layout.{table_at}
 use Rattle.searching.specs.Narrowed.{Front, Back}
-use Rattle.searching.proofs.Passing.{front_more, back_more}
-use Rattle.tables.proofs.Reading.{length_rows}
-use Rattle.searching.proofs.Narrowing.{front_cell, back_cell}
-use borrow.Author.Rules.{rules}
 use Rattle.searching.proofs.search.search.Given as goal
 
 abbrev pub invariant-loop-lo : goal.invariant-loop-lo

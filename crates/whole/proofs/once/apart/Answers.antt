@@ -1,87 +1,67 @@
--- `whole::once::apart` meets its contract. The invariant: the rows that are left hold no cell twice exactly where all
--- do. The measure is how many rows are left.
-use Prim.Native.Nat.{◌+◌, ◌-◌, ◌*◌, ◌≤◌}
-use mathlib.Core.Path.{◌≡◌, refl, sym, ◌∙◌}
+-- `whole::once::apart` meets its contract. The invariant: the rows from row i on hold no cell twice exactly where all
+-- do.
+use Prim.Native.Nat.{◌+◌, ◌*◌}
+use mathlib.Core.Path.{◌≡◌, refl, sym, ap, ap₂, ◌∙◌}
 use native.Mathlib.Omega.{arith}
-use lib.IntN.{pos}
-use lib.ListN.{length, get_or}
-use mir.Facts.{to_z-of_z}
+use mir.Syntax.{w64}
+use lib.ListN.{length, drop}
+use Rattle.cells.proofs.Bits.{read_back}
 use Rattle.cells.specs.Cell.{same}
 use Rattle.laws.specs.Lists.{any}
-use Rattle.laws.specs.Rows.{rows_at}
-use Rattle.meaning.specs.Operators.{column, once}
+use Rattle.meaning.specs.Operators.{column}
 use Rattle.tables.specs.Layout.{table_at, Inside}
-use Rattle.tables.proofs.Unrolled.{past_first}
-use Rattle.tables.proofs.Cells.{same_cell}
-use Rattle.whole.proofs.Repeats.{once_again, once_next, once_none}
-use mir.Syntax.{w64}
+use Rattle.tables.specs.Order.{cell_at}
+use Rattle.tables.proofs.Reading.{length_table}
+use Rattle.whole.proofs.Repeats.{once_again, once_next, once_none, below_inside, below_holds}
+use borrow.Author.Rules.{rules}
 use Rattle.whole.proofs.once.apart.Goals as goal
 
-pub loop-left-init : goal.loop-left-init
+pub overflow_mul-below : goal.overflow_mul-below
 unfolding Inside
-loop-left-init c =
-    (c.requires.0, refl)
+overflow_mul-below c =
+    omega (
+      arith,
+      below_inside c.args.s.at c.args.s.rows c.args.s.width c.loop-i.i
+          (length c.args.work.now) (omega arith) c.requires.0,
+    )
 
-pub overflow_add-a : goal.overflow_add-a
-overflow_add-a c =
-    let first : let w = c.args.s.width in c.loop-left.left * w ≡ w + (c.loop-left.left - 1) * w = past_first _ _ c.loop-left-test.true in
-    omega (arith, first)
-
-pub offset_bounds-work-a : goal.offset_bounds-work-a
-offset_bounds-work-a c =
-    let first : let w = c.args.s.width in c.loop-left.left * w ≡ w + (c.loop-left.left - 1) * w = past_first _ _ c.loop-left-test.true in
-    omega (arith, first)
-
-pub bounds-work-a : goal.bounds-work-a
-bounds-work-a c =
-    let first : let w = c.args.s.width in c.loop-left.left * w ≡ w + (c.loop-left.left - 1) * w = past_first _ _ c.loop-left-test.true in
-    omega (arith, first)
-
-pub overflow_add-a-in-loop-left : goal.overflow_add-a-in-loop-left
-overflow_add-a-in-loop-left c =
-    let first : let w = c.args.s.width in c.loop-left.left * w ≡ w + (c.loop-left.left - 1) * w = past_first _ _ c.loop-left-test.true in
-    omega (arith, first)
-
-pub overflow_sub-left : goal.overflow_sub-left
-overflow_sub-left c =
-    omega arith
+pub overflow_add-below : goal.overflow_add-below
+unfolding Inside
+overflow_add-below c =
+    omega (
+      arith,
+      below_inside c.args.s.at c.args.s.rows c.args.s.width c.loop-i.i
+          (length c.args.work.now) (omega arith) c.requires.0,
+    )
 
 pub occurs-requires : goal.occurs-requires
-occurs-requires c =
-    let first : let w = c.args.s.width in c.loop-left.left * w ≡ w + (c.loop-left.left - 1) * w = past_first _ _ c.loop-left-test.true in
-    omega (arith, first)
+unfolding Inside
+occurs-requires c = (
+  below_inside c.args.s.at c.args.s.rows c.args.s.width c.loop-i.i
+      (length c.args.work.now) (omega arith) c.requires.0,
+  omega arith,
+)
 
 pub returns-then-occurs : goal.returns-then-occurs
 unfolding table_at
 returns-then-occurs c =
-    let again : let g = c.args in c.occurs.result ≡ any (same (get_or g.work.now (c.loop-left.a + g.c) (pos 0))) (column (rows_at g.work.now (c.loop-left.a + g.s.width) (c.loop-left.left - 1) g.s.width) g.c) = c.occurs.ensures ∙ same_cell _ _ _ (to_z-of_z {w = w64} (record { sfits = c.occurs-arg-1.given })) in
-    sym (once_again _ _ _ _ _ (omega arith) c.loop-left-test.true
-    (sym again ∙ c.if-occurs.true))
-    ∙ c.loop-left.invariant.1
+    let g = c.args in
+    sym (once_again (table_at g.work.now g.s) g.c c.loop-i.i (omega (arith, length_table g.work.now g.s))
+    (sym (below_holds _ _ _ _ _ (omega arith) (read_back w64 c.cell_at.type_inv ∙ c.cell_at.ensures))
+    ∙ sym c.occurs.ensures ∙ c.if-occurs.true))
+    ∙ c.loop-i.invariant
 
-pub overflow_add-a-in-loop-left-2 : goal.overflow_add-a-in-loop-left-2
-overflow_add-a-in-loop-left-2 c =
-    let first : let w = c.args.s.width in c.loop-left.left * w ≡ w + (c.loop-left.left - 1) * w = past_first _ _ c.loop-left-test.true in
-    omega (arith, first)
-
-pub overflow_sub-left-in-loop-left : goal.overflow_sub-left-in-loop-left
-overflow_sub-left-in-loop-left c =
-    omega arith
-
-pub loop-left-smaller : goal.loop-left-smaller
-loop-left-smaller c =
-    omega arith
-
-pub loop-left-preserved : goal.loop-left-preserved
-loop-left-preserved c =
-    let first : let w = c.args.s.width in c.loop-left.left * w ≡ w + (c.loop-left.left - 1) * w = past_first _ _ c.loop-left-test.true in
-    let again : let g = c.args in c.occurs.result ≡ any (same (get_or g.work.now (c.loop-left.a + g.c) (pos 0))) (column (rows_at g.work.now (c.loop-left.a + g.s.width) (c.loop-left.left - 1) g.s.width) g.c) = c.occurs.ensures ∙ same_cell _ _ _ (to_z-of_z {w = w64} (record { sfits = c.occurs-arg-1.given })) in (
-      omega (arith, first),
-      sym (once_next _ _ _ _ _ (omega arith) c.loop-left-test.true (sym again ∙ c.if-occurs.false))
-          ∙ c.loop-left.invariant.1,
-    )
+pub loop-i-preserved : goal.loop-i-preserved
+unfolding table_at
+loop-i-preserved c =
+    let g = c.args in
+    sym (once_next (table_at g.work.now g.s) g.c c.loop-i.i (omega (arith, length_table g.work.now g.s))
+    (sym (below_holds _ _ _ _ _ (omega arith) (read_back w64 c.cell_at.type_inv ∙ c.cell_at.ensures))
+    ∙ sym c.occurs.ensures ∙ c.if-occurs.false))
+    ∙ c.loop-i.invariant
 
 pub returns : goal.returns
-unfolding table_at
 returns c =
-    sym (once_none _ _ _ _ _ (omega arith) (omega arith)) ∙ c.loop-left.invariant.1
+    sym (once_none (table_at c.args.work.now c.args.s) c.args.c c.loop-i.i
+    (omega (arith, length_table c.args.work.now c.args.s)))
+    ∙ c.loop-i.invariant

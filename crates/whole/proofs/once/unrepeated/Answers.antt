@@ -6,4 +6,4 @@ use Rattle.whole.proofs.once.unrepeated.Goals as goal
 
 pub returns-then-rises : goal.returns-then-rises
 returns-then-rises c =
-    sym (rises_once _ (sym c.rises.ensures ∙ c.if-rises.true))
+    c.if-rises.true ∙ sym (rises_once _ (sym c.rises.ensures ∙ c.if-rises.true))
