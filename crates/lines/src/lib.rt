@@ -30,6 +30,7 @@ pub fn copy_items(work: &[i64], start: usize, rows: usize, kept: &mut [i64])
 }
 
 // `refused n at p`.
+// As it is: (a) the contracts decide each lent byte, and `Display` says nothing of what is written.
 fn put_refusal(text: &mut [u8], at: usize, refusal: Refusal) -> usize
     requires { at + 64 < 2 ^ 64 }
     ensures { Pens at (Text.refused_line (number_of refusal.reason) refusal.place) text.old text.new result

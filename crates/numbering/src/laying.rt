@@ -18,6 +18,7 @@ fn lay_row(work: &mut [i64], a: usize, w: usize, c: usize, to: usize)
 }
 
 // Whether rows i and j are of one group: by p, and all of them where p is 255.
+// As it is: (a) 255 for no p is the word of the definition, Operators.number, and of the record RN.
 fn in_group(work: &[i64], s: Stand, p: usize, i: u16, j: u16) -> bool
     requires { Low s }
     ensures { result ≡ in_group p (from work.now s i) (from work.now s j) }

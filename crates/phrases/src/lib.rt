@@ -78,6 +78,7 @@ fn put_item(text: &mut [u8], at: usize, item: Item) -> usize
 }
 
 // What stands before the operands of a record: the whole text, where it has none.
+// As it is: (a) the contracts decide each lent byte, and `Display` says nothing of what is written.
 #[tactic(auto, unfolding(crate::specs::Phrases::head_of, query_records::specs::Decoded::record_of))]
 pub fn put_head(text: &mut [u8], at: usize, kind: Record) -> usize
     requires { Headed kind × (at + 64 < 2 ^ 64) }

@@ -11,6 +11,7 @@ use codes::{Axis, Function, Test, marks};
 
 // One operator: tables t and u by number, columns c and d from 0. The n columns of Project and the n keys of Number
 // stand in the plan's bytes from an offset on; Number's p is 255 for none.
+// As it is: (a) 255 for no p is the word of the definition, Operators.number, and of the record RN.
 #[derive(Clone, Copy)]
 pub enum Operator {
     One,

@@ -39,6 +39,7 @@ pub struct Decoded {
 
 // What follows a record: no operand; no operand, and a variable must be bound; one operand; two; two of which the
 // second sees one more variable; three.
+// As it is: (d) none of the six cases stands for an absent value.
 #[derive(Clone, Copy)]
 pub enum Operands {
     None,

@@ -234,6 +234,7 @@ fn show_plan_file(rt: &(impl Files + Print), doc: &[u8]) -> io::Result<()> {
 }
 
 // What is shown: the query in `query.bin`, the typed one in `query.xq`, or the plan in `plan.bin`.
+// As it is: (d) each source is another file, and goes on with another function.
 #[derive(Clone, Copy)]
 enum Source {
     Query,

@@ -33,6 +33,7 @@ fn put_node(text: &mut [u8], at: usize, rank: usize) -> usize
 }
 
 // An integer as itself, `false`, `true`, or `node` and its rank. Every cell of a table holds an item.
+// As it is: (a) the contracts decide each lent byte, and `Display` says nothing of what is written.
 pub fn put_cell(text: &mut [u8], at: usize, cell: i64) -> usize
     requires { at + 25 < 2 ^ 64 }
     ensures { Pens at (cell_text cell) text.old text.new result × (result ≤ at + 25) }

@@ -27,7 +27,7 @@ fn one_case(
     print(rt, &query[0..n], doc)
 }
 
-// The next group, whose cases are numbered from `number` on. The number stays in its type.
+// The next group, whose cases are numbered from `number` on; the number cannot pass its type.
 fn one_group(
     rt: &impl Print,
     file: &mut impl Read,
