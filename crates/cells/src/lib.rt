@@ -112,6 +112,17 @@ pub fn before(a: i64, b: i64) -> bool
     a < b
 }
 
+// Whether a number is one of the integers.
+pub fn in_range(z: i64) -> bool
+    ensures { result ≡ Cell.in_range z }
+{
+    if z < -2147483648 {
+        false
+    } else {
+        z < 2147483648
+    }
+}
+
 // The cell of a boolean.
 pub fn truth_cell(b: bool) -> i64
     ensures { result ≡ Cell.truth_cell b }
