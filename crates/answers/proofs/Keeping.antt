@@ -1,4 +1,5 @@
 -- The runner's items, kept in cells of their own, are printed as they stood in the runner's cells.
+--     refusal_told    a refusal that is handed on is told
 --     items_of        the items of an answer's last table
 --     kept_none       after a refusal nothing is kept
 --     not_asked, asked           after 6 the evaluator is not asked; else what it tells and leaves
@@ -6,6 +7,8 @@
 --     rows_room       the bytes that are enough for their lines
 --     text_kept       the text of the kept items
 use Rattle.std.specs.Prelude.{Result, Ok, Err}
+use Rattle.std.specs.Result.{IsErrAnd}
+use Rattle.std.proofs.lemmas.Result.{err_from_is_err_and}
 use Prim.Native.Nat.{ℕ, ◌+◌, ◌*◌, ◌≤◌}
 use mathlib.Core.Path.{◌≡◌, refl, sym, ap, ◌∙◌, subst}
 use mathlib.Core.List.{List}
@@ -24,12 +27,21 @@ use Rattle.meaning.specs.Operators.{column}
 use Rattle.meaning.specs.Calls.{Answer, gives, refused, Outcome, evaluate_call}
 use Rattle.running.specs.declared.Tables.{Tables}
 use Rattle.runner.specs.Answers.{answered}
-use Rattle.verdicts.specs.Compared.{Told, Gave, Refused, told, GaveStands, refused_with, agree, verdict}
+use Rattle.verdicts.specs.declared.ToldRefusal.{ToldRefusal}
+use Rattle.verdicts.specs.Compared.{Told, Gave, Refused, told, told_refusal, GaveStands, refused_with, agree, verdict}
 use Rattle.lines.specs.Text.{first_lines, text}
 use Rattle.lines.specs.Printed.{value_of, told_by}
 use Rattle.lines.specs.Placed.{room_for}
 use Rattle.lines.proofs.Kept.{length_column}
 use Rattle.answers.specs.Second.{second, Within}
+
+-- Telling
+
+pub refusal_told : (r : Result ℕ ToldRefusal) (t : ToldRefusal) → IsErrAnd r (λ (x : ToldRefusal). x ≡ t)
+    → told r ≡ Refused t.number t.place
+refusal_told r t h =
+    let p = err_from_is_err_and r h in
+    rw (p.1, p.2) refl
 
 -- Keeping
 
@@ -58,13 +70,13 @@ module _ (ran : Result Tables Refusal) (t : Tables) (e : ran ≡ Ok t) where
 
 -- Asking the evaluator
 
-pub not_asked : (ran : Result Tables Refusal) (r : Refusal) (cells : List ℤ) (query doc : List ℕ) → ran ≡ Err r
-    → r.reason ≡ Reason.Room
-    → (told (Err r) ≡ told_by 0 (second (answered ran) cells query doc).answer)
+pub not_asked : (ran : Result Tables Refusal) (r : Refusal) (t : ToldRefusal) (cells : List ℤ) (query doc : List ℕ)
+    → ran ≡ Err r → r.reason ≡ Reason.Room → t ≡ told_refusal r
+    → (told (Err t) ≡ told_by 0 (second (answered ran) cells query doc).answer)
     × (cells ≡ (second (answered ran) cells query doc).left)
 unfolding second answered told_by refused_with
-not_asked ran r cells query doc d e =
-    (rw (d, e) refl, rw (d, e) refl)
+not_asked ran r t cells query doc d e f =
+    (rw (f, d, e) refl, rw (d, e) refl)
 
 other_number : (x : Reason) → (x ≡ Reason.Room → ⊥) → eqb (number_of x) 6 ≡ false
 other_number Reason.Record f = refl

@@ -22,21 +22,21 @@ use verdicts::Told;
 pub fn plan_told(translated: Result<Translated, Refusal>) -> Told
     ensures { told result ≡ told_by 0 (Translator.answered translated) }
 {
-    translated.map(|plan| plan.operators)
+    Ok(translated?.operators)
 }
 
 // What the runner told: the rows of its last table, or its refusal.
 pub fn run_told(ran: Ran) -> Told
     ensures { told result ≡ told_by 1 (Runner.answered ran) }
 {
-    ran.map(|tables| tables.rows)
+    Ok(ran?.rows)
 }
 
 // What the evaluator told: its items, or its refusal.
 pub fn evaluation_told(evaluated: Result<Evaluated, Refusal>) -> Told
     ensures { told result ≡ told_by 0 (Evaluator.answered evaluated) }
 {
-    evaluated.map(|given| given.items)
+    Ok(evaluated?.items)
 }
 
 // Keeps the items of the runner's last table; there are none after a refusal.
@@ -61,7 +61,7 @@ pub fn second_told(ran: Ran, query: &[u8], doc: &[u8], work: &mut [i64]) -> Told
         doc.now).left) }
 {
     match ran {
-        Err(refusal) if refusal.reason == Reason::Room => Err(refusal),
+        Err(refusal) if refusal.reason == Reason::Room => Err(refusal.into()),
         _ => evaluation_told(evaluator::evaluate(query, doc, work)),
     }
 }

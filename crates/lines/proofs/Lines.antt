@@ -19,10 +19,9 @@ use Rattle.cells.specs.declared.Item.{Item}
 use Rattle.cells.specs.declared.Item.TheVariants.{Integer, Truth, Node}
 use Rattle.laws.specs.Lists.{gather}
 use Rattle.laws.proofs.Filters.{gather_append}
+use Rattle.verdicts.specs.declared.ToldRefusal.{ToldRefusal}
 use Rattle.verdicts.specs.declared.Verdict.{Verdict}
 use Rattle.lines.specs.Text.{integer_line, truth_line, node_line, held_line, item_line, items_line, refused_line}
-use Rattle.codes.specs.Refusals.{number_of}
-use Rattle.codes.specs.declared.refusals.Refusal.{Refusal}
 use Rattle.verdicts.specs.Compared.{Told, Gave, Refused, told, refused_with, verdict}
 use Rattle.lines.specs.Text.{first_lines, same_line, text}
 
@@ -59,29 +58,29 @@ lines_more cells i z e h =
     ∙ ap (gather item_line) (sym (take-suc cells i (pos 0) h) ∙ ap (λ (k : ℕ). take k cells) (sym (add-one i)))
 
 -- what was told
-module _ (t : Result ℕ Refusal) (xs : List ℤ) where
+module _ (t : Result ℕ ToldRefusal) (xs : List ℤ) where
   module _ (n : ℕ) (e : t ≡ Ok n) where
     pub first_gave : items_line n ++ gather item_line (take n xs) ≡ first_lines (told t) xs
     unfolding first_lines
-    first_gave = sym (ap (λ (u : Result ℕ Refusal). first_lines (told u) xs) e)
+    first_gave = sym (ap (λ (u : Result ℕ ToldRefusal). first_lines (told u) xs) e)
 
-  module _ (r : Refusal) (e : t ≡ Err r) where
-    pub first_refused : refused_line (number_of r.reason) r.place ≡ first_lines (told t) xs
+  module _ (r : ToldRefusal) (e : t ≡ Err r) where
+    pub first_refused : refused_line r.number r.place ≡ first_lines (told t) xs
     unfolding first_lines
-    first_refused = sym (ap (λ (u : Result ℕ Refusal). first_lines (told u) xs) e)
+    first_refused = sym (ap (λ (u : Result ℕ ToldRefusal). first_lines (told u) xs) e)
 
-module _ (t : Result ℕ Refusal) (ran : Told) (xs : List ℤ) (evaluated : Told) (ys : List ℤ) where
+module _ (t : Result ℕ ToldRefusal) (ran : Told) (xs : List ℤ) (evaluated : Told) (ys : List ℤ) where
   pub text_gave : (k : ℕ) (v : Verdict) → t ≡ Ok k → v ≡ verdict ran xs evaluated ys
       → first_lines ran xs ++ same_line v ≡ text (told t) ran xs evaluated ys
   unfolding text
   text_gave k v e d =
       ap (λ (w : Verdict). first_lines ran xs ++ same_line w) d
-      ∙ sym (ap (λ (u : Result ℕ Refusal). text (told u) ran xs evaluated ys) e)
+      ∙ sym (ap (λ (u : Result ℕ ToldRefusal). text (told u) ran xs evaluated ys) e)
 
   pub text_refused :
-      (r : Refusal) → t ≡ Err r → refused_line (number_of r.reason) r.place ≡ text (told t) ran xs evaluated ys
+      (r : ToldRefusal) → t ≡ Err r → refused_line r.number r.place ≡ text (told t) ran xs evaluated ys
   unfolding text
-  text_refused r e = sym (ap (λ (u : Result ℕ Refusal). text (told u) ran xs evaluated ys) e)
+  text_refused r e = sym (ap (λ (u : Result ℕ ToldRefusal). text (told u) ran xs evaluated ys) e)
 
 -- where the runner gave 6, what the evaluator told does not matter
 pub text_room : (t ran : Told) (xs : List ℤ) (evaluated other : Told) (ys zs : List ℤ) → refused_with 6 ran ≡ true

@@ -4,7 +4,6 @@
 mod items;
 
 ghost use Rattle.std.specs.Prelude.{◌≡◌, ◌+◌, ◌*◌, ◌^◌, ◌≤◌, ◌<◌, length};
-ghost use Rattle.codes.specs.Refusals.{number_of};
 ghost use Rattle.laws.specs.Rows.{rows_at, laid};
 ghost use Rattle.meaning.specs.Operators;
 ghost use Rattle.pen.specs.Penned.{Pens};
@@ -13,9 +12,8 @@ ghost use Rattle.verdicts.specs.Compared;
 ghost use Rattle.verdicts.specs.Compared.{GaveStands};
 ghost use Rattle.lines.specs.Placed.{Put, room_for};
 
-use codes::refusals::Refusal;
 use verdicts::comparing::verdict;
-use verdicts::{Told, Verdict};
+use verdicts::{Told, ToldRefusal, Verdict};
 
 // Copies the items of the runner's last table, its column 2, so that the cells can be lent again. Each row is looked
 // at once.
@@ -31,13 +29,13 @@ pub fn copy_items(work: &[i64], start: usize, rows: usize, kept: &mut [i64])
 
 // `refused n at p`.
 // As it is: (a) the contracts decide each lent byte, and `Display` says nothing of what is written.
-fn put_refusal(text: &mut [u8], at: usize, refusal: Refusal) -> usize
+fn put_refusal(text: &mut [u8], at: usize, refusal: ToldRefusal) -> usize
     requires { at + 64 < 2 ^ 64 }
-    ensures { Pens at (Text.refused_line (number_of refusal.reason) refusal.place) text.old text.new result
+    ensures { Pens at (Text.refused_line refusal.number refusal.place) text.old text.new result
         × (result ≤ at + 64) }
 {
     let a = pen::put_word(text, at, b"refused ");
-    let b = pen::put_number(text, a, refusal.number());
+    let b = pen::put_number(text, a, refusal.number);
     items::put_line(text, b, b" at ", refusal.place)
 }
 

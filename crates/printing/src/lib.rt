@@ -50,7 +50,10 @@ pub fn tell(
     let told = plan_told(translated);
     match translated {
         // After a refusal nothing of the engines is printed: it stands for what they told.
-        Err(refusal) => lines::write(text, told, Err(refusal), kept, Err(refusal), work),
+        Err(refusal) => {
+            let refused: Told = Err(refusal.into());
+            lines::write(text, told, refused, kept, refused, work)
+        }
         Ok(made) => both(told, query, &plan[0..made.bytes], doc, work, kept, text),
     }
 }

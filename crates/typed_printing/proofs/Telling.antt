@@ -21,7 +21,8 @@ use Rattle.meaning.specs.Query.{Read, query_read}
 use Rattle.meaning.specs.Calls.{Answer, gives, refused, Outcome, refusal}
 use Rattle.codes.specs.Refusals.{number_of}
 use Rattle.codes.specs.declared.refusals.Refusal.{Refusal}
-use Rattle.verdicts.specs.Compared.{Told, Gave, Refused, told}
+use Rattle.verdicts.specs.declared.ToldRefusal.{ToldRefusal}
+use Rattle.verdicts.specs.Compared.{Told, Gave, Refused, told, told_refusal}
 use Rattle.lines.specs.Text as Text
 use Rattle.lines.specs.Text.{refused_line, same_no, Nowhere}
 use Rattle.lines.specs.Placed.{Put}
@@ -116,12 +117,14 @@ module _ (x : Result Typed Refusal) (typed query : List ℕ) (l : ℕ) (call : T
     call_is : (o : Outcome ℕ) → outcome x query ≡ o → TypedCall typed 1024 o
     call_is o e = subst (TypedCall typed 1024) e (subst (λ (j : ℕ). TypedCall typed j (outcome x query)) long call)
 
-    pub tells_refused : (r : Refusal) (ran evaluated : Told) (xs ys : List ℤ) → x ≡ Err r
-        → Put text text' 0 (Text.text (told (Err r)) ran xs evaluated ys) n
+    pub tells_refused : (r : Refusal) (u : ToldRefusal) (ran evaluated : Told) (xs ys : List ℤ) → x ≡ Err r
+        → u ≡ told_refusal r → Put text text' 0 (Text.text (told (Err u)) ran xs evaluated ys) n
         → TellsTyped typed doc query plan plan work work kept kept text text' n
         × (n ≤ length text') × Nowhere same_no (take n text')
     unfolding refusal answered Text.text
-    tells_refused r ran evaluated xs ys h put =
+    tells_refused r u ran evaluated xs ys h e given =
+        let put : Put text text' 0 (refused_line (number_of r.reason) r.place) n =
+        subst (λ (v : ToldRefusal). Put text text' 0 (Text.text (told (Err v)) ran xs evaluated ys) n) e given in
         let is : outcome x query ≡ refusal 0 1024 (number_of r.reason) r.place =
         refused_call typed l (outcome x query) (number_of r.reason) r.place call (ap answered h)
         ∙ ap (λ (j : ℕ). refusal 0 j (number_of r.reason) r.place) long in (

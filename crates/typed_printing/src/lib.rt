@@ -5,6 +5,8 @@ ghost use Rattle.std.specs.Prelude.{◌≤◌, ◌≡◌, length, take};
 ghost use Rattle.lines.specs.Text.{same_no, Nowhere};
 ghost use Rattle.typed_printing.specs.Telling.{TellsTyped};
 
+use verdicts::Told;
+
 // Writes what `charttext` prints for a typed query and a catalogue, and answers how many bytes it is. The records alone
 // go on; after the reader's refusal nothing else is called.
 pub fn tell(
@@ -27,7 +29,10 @@ pub fn tell(
     let read = reader::read(typed, query);
     match read {
         // After a refusal nothing of the engines is printed: it stands for what they told.
-        Err(refusal) => lines::write(text, Err(refusal), Err(refusal), kept, Err(refusal), work),
+        Err(refusal) => {
+            let told: Told = Err(refusal.into());
+            lines::write(text, told, told, kept, told, work)
+        }
         Ok(made) => printing::tell(&query[0..made.bytes], doc, plan, work, kept, text),
     }
 }

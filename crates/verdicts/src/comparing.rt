@@ -9,7 +9,7 @@ use crate::{Told, Verdict};
 fn refused_with(number: usize, told: Told) -> bool
     ensures { result ≡ Compared.refused_with number (Compared.told told) }
 {
-    told.is_err_and(|refusal| refusal.number() == number)
+    told.is_err_and(|refusal| refusal.number == number)
 }
 
 // Whether both gave the same items, or both refused with the same number.
@@ -22,7 +22,7 @@ fn agrees(ran: Told, xs: &[i64], evaluated: Told, ys: &[i64]) -> bool
     match (ran, evaluated) {
         (Ok(n), Ok(m)) => xs[..n] == ys[..m],
         (Ok(_), Err(_)) => false,
-        (Err(refusal), _) => refused_with(refusal.number(), evaluated),
+        (Err(refusal), _) => refused_with(refusal.number, evaluated),
     }
 }
 

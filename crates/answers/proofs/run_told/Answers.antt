@@ -3,7 +3,13 @@ use Rattle.std.proofs.Common.{arith}
 use Rattle.std.proofs.lemmas.Grind.{common_steps}
 use Rattle.lines.specs.Printed.{told_by}
 use Rattle.runner.specs.Answers.{answered}
+use Rattle.answers.proofs.Keeping.{refusal_told}
 use Rattle.answers.proofs.run_told.Goals as goal
+
+pub returns-in_err-ran : goal.returns-in_err-ran
+unfolding told_by answered
+returns-in_err-ran c =
+    rw c.in_err-ran.was (refusal_told _ _ c.from_residual.ensures.1)
 
 pub returns : goal.returns
 unfolding told_by answered

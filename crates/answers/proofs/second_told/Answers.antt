@@ -1,6 +1,7 @@
 -- `second_told` meets its contract: after 6 the evaluator is not asked, else its answer and cells.
 use mathlib.Core.Path.{◌≡◌}
 use Rattle.codes.specs.declared.refusals.Reason.TheVariants as Reason
+use Rattle.verdicts.specs.Compared.{told_refusal}
 use Rattle.answers.proofs.Keeping.{not_asked, asked_given, asked_refused}
 use borrow.Author.Rules.{rules}
 use Rattle.answers.proofs.second_told.Goals as goal
@@ -9,8 +10,8 @@ use Rattle.answers.proofs.second_told.Goals.{in_default-via-in-Err+else-eq, in_d
 pub returns-in-Err : goal.returns-in-Err
 returns-in-Err c =
     let full : c.in-Err.refusal.reason ≡ Reason.Room = search rules in
-    let p = not_asked _ _ c.args.work.now c.args.query.now c.args.doc.now c.in-Err.is full in
-    (cc p.0, p.1)
+    let tells : c.into.result ≡ told_refusal c.in-Err.refusal = rw c.in-Err.is at c.into.ensures in
+    not_asked _ _ _ c.args.work.now c.args.query.now c.args.doc.now c.in-Err.is full tells
 
 pub returns-in_default : goal.returns-in_default
 returns-in_default c =

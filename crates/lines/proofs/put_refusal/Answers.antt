@@ -1,9 +1,7 @@
 -- `lines::put_refusal` meets its contract: a word and the number, then the line of the place.
-use mathlib.Core.Path.{ap}
-use Prim.Native.Nat.{ℕ}
 use native.Mathlib.Omega.{arith}
 use Rattle.lines.specs.Text.{refused_line}
-use Rattle.pen.proofs.Putting.{pens_more, pens_as}
+use Rattle.pen.proofs.Putting.{pens_more}
 use Rattle.pen.proofs.Digits.{decimal_end}
 use Rattle.lines.proofs.put_refusal.Goals as goal
 
@@ -14,8 +12,7 @@ put_line-requires c =
 pub returns : goal.returns
 unfolding refused_line
 returns c = (
-  pens_as (ap (λ (n : ℕ). refused_line n c.args.refusal.place) c.number.ensures)
-      (pens_more c.put_word-a.ensures (pens_more c.put_number-b.ensures c.put_line.ensures.0)),
+  pens_more c.put_word-a.ensures (pens_more c.put_number-b.ensures c.put_line.ensures.0),
   omega (
     arith,
     c.put_word-a.ensures.ends,

@@ -10,8 +10,8 @@ write-requires c =
 
 pub returns-in-Err : goal.returns-in-Err
 returns-in-Err c =
-    tells_refused c.read-read.result _ _ _ c.read-read.ensures c.requires.query_len _ _ _ _ _ _ _ _ _ _ _ _
-    c.in-Err.is c.write.ensures
+    tells_refused c.read-read.result _ _ _ c.read-read.ensures c.requires.query_len _ _ _ _ _ _ _ _ c.into.result
+    _ _ _ _ c.in-Err.is c.into.ensures c.write.ensures
 
 pub slice_bounds-tell-end : goal.slice_bounds-tell-end
 slice_bounds-tell-end c =
