@@ -42,7 +42,7 @@ pub fn load(file: &mut impl Read, space: &mut [u8]) -> io::Result<usize>
 }
 
 // Opens a file of cases and prints its heading; none where there is no such file.
-fn opened<R: Files + Print + Eprint>(
+pub fn opened<R: Files + Print + Eprint>(
     rt: &R,
     path: &str,
     heading: &str,
@@ -88,10 +88,15 @@ pub fn say(rt: &impl Print, word: &str, n: usize) -> io::Result<()> {
     print!(rt; "{word}{n}")
 }
 
-// A refusal's number and place.
+// A refusal's number, any of them, and its place.
+pub fn refused(rt: &impl Print, number: usize, place: usize) -> io::Result<()> {
+    say(rt, "refused ", number)?;
+    say(rt, " at ", place)
+}
+
+// A refusal of a call.
 pub fn tell_refusal(rt: &impl Print, refusal: Refusal) -> io::Result<()> {
-    say(rt, "refused ", refusal.number())?;
-    say(rt, " at ", refusal.place)
+    refused(rt, refusal.number(), refusal.place)
 }
 
 // One number more in the sum.

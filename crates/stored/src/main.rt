@@ -9,13 +9,11 @@ mod checks;
 mod texts;
 
 fn main(rt: HostRuntime) -> io::Result<()> {
-    let mut work = [0i64; 65600];
     checks::all(&rt)?;
     engine(
         &rt,
         "evaluations.bin",
         "== evaluations\n",
-        &mut work,
         |query, doc, work| {
             match evaluator::evaluate(query, doc, work) {
                 Ok(given) => print!(rt; "items {} count {}", given.items, given.count),
@@ -34,7 +32,7 @@ fn main(rt: HostRuntime) -> io::Result<()> {
             }
         },
     )?;
-    engine(&rt, "runs.bin", "== runs\n", &mut work, |plan, doc, work| {
+    engine(&rt, "runs.bin", "== runs\n", |plan, doc, work| {
         match runner::run(plan, doc, work) {
             Ok(laid) => print!(rt;
                 "start {} rows {} cells {}",
