@@ -30,7 +30,9 @@ pub fn look(plan: &[u8], at: usize, widths: &[u8], n: usize) -> Option<Seen>
     if !fits(plan, at, 2) {
         return None;
     }
-    let found = plan_records::read(plan, at)?;
+    let Some(found) = plan_records::read(plan, at) else {
+        return None;
+    };
     let width = plan_widths::width_of(plan, found.operator, widths, n);
     Some(Seen {
         next: found.next,
