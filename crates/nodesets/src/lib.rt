@@ -70,7 +70,11 @@ pub fn count(marks: &[bool], rows: usize) -> usize
     requires { rows ≤ length marks.now }
     ensures { result ≡ length (ranks rows marks.now) }
 {
-    marks[..rows].iter().filter(|marked| **marked).count()
+    let mut n: usize = 0;
+    for v in 0..rows {
+        n += usize::from(marks[v]);
+    }
+    n
 }
 
 // Writes the cells of the marked nodes, by rising rank, from a place on. Answers how many they are.

@@ -107,11 +107,12 @@ fn each_row(
     let step = wider(w, task);
     let mut top = at;
     let mut n: usize = 0;
+    let mut a = s.at;
     for i in 0..s.rows {
-        let a = s.at + i * w;
         let m = lay_row(plan, doc, rows, task, work, a, w, top, room)?;
         top += m * step;
         n += m;
+        a += w;
     }
     Ok(n)
 }

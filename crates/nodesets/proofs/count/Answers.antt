@@ -1,13 +1,26 @@
--- `count` meets its contract: the flags below `rows` that are true are counted.
-use mathlib.Core.Path.{◌≡◌, ◌∙◌}
-use mathlib.Core.Bool.{Bool}
-use lib.ListN.{take}
-use borrow.Author.Rules.{rules}
-use Rattle.std.specs.List.{count_by}
-use Rattle.nodesets.proofs.Ranks.{count_marked}
+-- `count` meets its contract. The invariant: n is the number of marked ranks below v.
+use Prim.Native.Nat.{◌+◌, zero-le}
+use mathlib.Core.Path.{◌≡◌, sym, ap}
+use native.Mathlib.Omega.{arith}
+use lib.ListN.{length}
+use Rattle.nodesets.proofs.Ranks.{ranks_none, length_ranks, length_ranks_more}
 use Rattle.nodesets.proofs.count.Goals as goal
+
+pub loop-v-init : goal.loop-v-init
+loop-v-init c = (zero-le, sym (ap length (ranks_none _)))
+
+pub overflow_add-n : goal.overflow_add-n
+overflow_add-n c =
+    let loop = c.loop-v in
+    let marks = c.args.marks.now in
+    omega (arith, length_ranks (loop.v + 1) marks, length_ranks_more loop.v marks, c.well_formed.0.0)
+
+pub loop-v-preserved : goal.loop-v-preserved
+loop-v-preserved c =
+    let loop = c.loop-v in
+    (omega arith, omega (arith, length_ranks_more loop.v c.args.marks.now))
 
 pub returns : goal.returns
 returns c =
-    let counted : c.count.result ≡ count_by (λ (b : Bool). b) (take c.args.rows c.args.marks.now) = search rules in
-    counted ∙ count_marked _ _ c.requires
+    let end : c.loop-v.v ≡ c.args.rows = omega arith in
+    rw end at c.loop-v.invariant.1
