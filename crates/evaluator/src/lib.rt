@@ -3,11 +3,12 @@
 
 ghost use Rattle.std.specs.Prelude.{◌≡◌, length};
 ghost use Rattle.meaning.specs.Calls.{evaluate_call};
-ghost use Rattle.evaluator.specs.Answers.{answered, standing};
+ghost use Rattle.evaluator.specs.Answers.{answered, concluding, standing};
 ghost use Rattle.evaluator.specs.Attempts.{Attempts};
 
 use codes::limits::LEVELS;
-use codes::refusals::Refusal;
+use codes::refusals::{Refusal, Stop};
+use stack::Stood;
 use working_parts::Scope;
 
 // What a query gives: the number of its items, and their count.
@@ -15,6 +16,17 @@ use working_parts::Scope;
 pub struct Evaluated {
     pub items: usize,
     pub count: usize,
+}
+
+// The answer where the query was worked out.
+fn concluded(answer: Result<Stood, Stop>) -> Result<Evaluated, Refusal>
+    ensures { result ≡ concluding answer }
+{
+    let stood = answer?;
+    Ok(Evaluated {
+        items: stood.length,
+        count: stood.count,
+    })
 }
 
 // Query, then catalogue, then work: refusal 1 to 3 of the query, 4 of the catalogue, 6 and 7 of the work. What stands
@@ -29,11 +41,8 @@ fn attempt(query: &[u8], doc: &[u8], work: &mut [i64]) -> Result<Evaluated, Refu
         starts: [0; 8],
         lengths: [0; 8],
     };
-    let answer = working::work_out(query, doc, rows, scope, 0, LEVELS, work, 0, room)?;
-    Ok(Evaluated {
-        items: answer.length,
-        count: answer.count,
-    })
+    let answer = working::work_out(query, doc, rows, scope, 0, LEVELS, work, 0, room);
+    concluded(answer)
 }
 
 // How many items are left: none after a refusal.

@@ -4,7 +4,7 @@
 ghost use Rattle.std.specs.Prelude.{◌≡◌, ◌≤◌, length};
 ghost use Rattle.grammar.specs.Typed.{TypedCall};
 ghost use Rattle.recording.specs.Recorded.{most_bytes};
-ghost use Rattle.reader.specs.Answers.{outcome, cleared, HandsOut};
+ghost use Rattle.reader.specs.Answers.{outcome, bytes_of, cleared, HandsOut};
 
 use codes::refusals::{Reason, Refusal};
 
@@ -49,15 +49,21 @@ fn found(text: &[u8], query: &mut [u8]) -> Result<Typed, Refusal>
     }
 }
 
+// How many bytes of records the answer counts: none after a refusal.
+fn bytes_of(typed: Result<Typed, Refusal>) -> usize
+    ensures { result ≡ bytes_of typed }
+{
+    match typed {
+        Ok(records) => records.bytes,
+        Err(_) => 0,
+    }
+}
+
 // The reader: the records of a text, zeros after them. A refusal leaves zeros.
 pub fn read(text: &[u8], query: &mut [u8]) -> Result<Typed, Refusal>
     ensures { TypedCall text.now (length query.old) (outcome result query.new) }
 {
     let typed = found(text, query);
-    let end = match typed {
-        Ok(records) => records.bytes,
-        Err(_) => 0,
-    };
-    pen::clear(query, end);
+    pen::clear(query, bytes_of(typed));
     typed
 }

@@ -56,6 +56,16 @@ fn planned(query: &[u8], plan: &mut [u8]) -> Result<Translated, Refusal>
     whole(query, plan)
 }
 
+// How many bytes the answer leaves: those of the plan, none after a refusal.
+fn kept(answer: Result<Translated, Refusal>) -> usize
+    ensures { result ≡ kept answer }
+{
+    match answer {
+        Ok(translated) => translated.bytes,
+        Err(_) => 0,
+    }
+}
+
 // The translator: the query's refusals 1, 2, 3; then 2 at 0 over 512 operators; then 8 at 0; else the plan, zeros after
 // it. A refusal leaves zeros.
 pub fn translate(query: &[u8], plan: &mut [u8]) -> Result<Translated, Refusal>
@@ -63,10 +73,6 @@ pub fn translate(query: &[u8], plan: &mut [u8]) -> Result<Translated, Refusal>
         (plan.new ≡ (translate_call query.now (length plan.old)).left) }
 {
     let answer = planned(query, plan);
-    let bytes = match answer {
-        Ok(translated) => translated.bytes,
-        Err(_) => 0,
-    };
-    pen::clear(plan, bytes);
+    pen::clear(plan, kept(answer));
     answer
 }

@@ -2,9 +2,10 @@
 --     refused_call     an outcome of the reader that refuses is that refusal's: zeros in all that was lent
 --     records_call     one that gives records has their bytes, and zeros after them
 --     bytes_within     the record bytes stand in the lent bytes
+--     few              the numbers of refusals are 9 at most
 --     tells_refused, tells_records     so `tell` leaves what it promises
 use Prim.Native.Nat.{ℕ, ◌-◌, ◌≤◌}
-use mathlib.Core.Path.{◌≡◌, refl, sym, ap, ◌∙◌, subst}
+use mathlib.Core.Path.{◌≡◌, refl, sym, ap, ap₂, ◌∙◌, subst}
 use mathlib.Core.List.{List, [], ◌∷◌}
 use mathlib.Core.Bool.{Bool, true, false, cond}
 use native.Mathlib.Omega.{arith}
@@ -20,9 +21,9 @@ use Rattle.laws.specs.Rows.{padded}
 use Rattle.meaning.specs.Query.{Read, query_read}
 use Rattle.meaning.specs.Calls.{Answer, gives, refused, Outcome, refusal}
 use Rattle.codes.specs.Refusals.{number_of}
+use Rattle.codes.specs.declared.refusals.Reason.{Reason}
 use Rattle.codes.specs.declared.refusals.Refusal.{Refusal}
-use Rattle.verdicts.specs.declared.ToldRefusal.{ToldRefusal}
-use Rattle.verdicts.specs.Compared.{Told, Gave, Refused, told, told_refusal}
+use Rattle.verdicts.specs.Compared.{Told, Gave, Refused}
 use Rattle.lines.specs.Text as Text
 use Rattle.lines.specs.Text.{refused_line, same_no, Nowhere}
 use Rattle.lines.specs.Placed.{Put}
@@ -95,6 +96,17 @@ records_call t l o j k (inside bs typed e) a =
     records_given l bs (query_read bs) j k (sym (ap (λ (x : Outcome ℕ). x.answer) e) ∙ a) in
     (bs, long, ap (λ (x : Outcome ℕ). x.left) e ∙ left, fits)
 
+pub few : (r : Reason) → number_of r ≤ 9
+few Reason.Record = omega arith
+few Reason.Excess = omega arith
+few Reason.Unbound = omega arith
+few Reason.Catalogue = omega arith
+few Reason.Plan = omega arith
+few Reason.Room = omega arith
+few Reason.Failure = omega arith
+few Reason.Longer = omega arith
+few Reason.Outside = omega arith
+
 -- the text of a refusal
 refused_quiet : (k p : ℕ) → Nowhere same_no (refused_line k p)
 unfolding Text.text
@@ -117,14 +129,14 @@ module _ (x : Result Typed Refusal) (typed query : List ℕ) (l : ℕ) (call : T
     call_is : (o : Outcome ℕ) → outcome x query ≡ o → TypedCall typed 1024 o
     call_is o e = subst (TypedCall typed 1024) e (subst (λ (j : ℕ). TypedCall typed j (outcome x query)) long call)
 
-    pub tells_refused : (r : Refusal) (u : ToldRefusal) (ran evaluated : Told) (xs ys : List ℤ) → x ≡ Err r
-        → u ≡ told_refusal r → Put text text' 0 (Text.text (told (Err u)) ran xs evaluated ys) n
+    pub tells_refused : (r : Refusal) (k p : ℕ) (ran evaluated : Told) (xs ys : List ℤ) → x ≡ Err r
+        → Put text text' 0 (Text.text (Refused k p) ran xs evaluated ys) n → k ≡ number_of r.reason → p ≡ r.place
         → TellsTyped typed doc query plan plan work work kept kept text text' n
         × (n ≤ length text') × Nowhere same_no (take n text')
     unfolding refusal answered Text.text
-    tells_refused r u ran evaluated xs ys h e given =
+    tells_refused r k p ran evaluated xs ys h given same_number same_place =
         let put : Put text text' 0 (refused_line (number_of r.reason) r.place) n =
-        subst (λ (v : ToldRefusal). Put text text' 0 (Text.text (told (Err v)) ran xs evaluated ys) n) e given in
+        subst (λ (l : List ℕ). Put text text' 0 l n) (ap₂ refused_line same_number same_place) given in
         let is : outcome x query ≡ refusal 0 1024 (number_of r.reason) r.place =
         refused_call typed l (outcome x query) (number_of r.reason) r.place call (ap answered h)
         ∙ ap (λ (j : ℕ). refusal 0 j (number_of r.reason) r.place) long in (

@@ -1,4 +1,4 @@
--- `attempt` meets its contract: query, then catalogue, then work.
+-- `attempt` meets its contract: query, then catalogue, then work. What is concluded is taken by its value.
 use mathlib.Core.Path.{refl}
 use native.Mathlib.Omega.{arith}
 use Rattle.meaning.specs.Calls.{room}
@@ -17,23 +17,16 @@ returns-in_err-rows c =
     rw (err_is _ _ c.from_residual-in_err-rows.ensures.1)
     (call_unsound _ _ _ _ refl _ c.in_ok-check.ensures _ c.in_err-rows.ensures)
 
-pub work_out-requires : goal.work_out-requires
+pub work_out-answer-requires : goal.work_out-answer-requires
 unfolding room
-work_out-requires c = (
+work_out-answer-requires c = (
   known_accepted c.args.doc.now _ c.in_ok-rows.ensures,
   scoped_nothing,
   record { low = omega arith; lent = omega (arith, c.room_of-room.ensures) },
 )
 
-pub returns-in_err-answer : goal.returns-in_err-answer
-unfolding concluding room
-returns-in_err-answer c =
-    call_concluded _ _ _ _ c.work_out.auto.work _ c.in_ok-check.ensures _ _ _ _ _ c.in_ok-rows.ensures
-    c.room_of-room.ensures (omega (arith, c.room_of-room.ensures)) c.in_err-answer.ensures
-    (err_is _ _ c.from_residual-in_err-answer.ensures.1)
-
 pub returns : goal.returns
 unfolding concluding room
 returns c =
-    call_concluded _ _ _ _ c.work_out.auto.work _ c.in_ok-check.ensures _ _ _ _ _ c.in_ok-rows.ensures
-    c.room_of-room.ensures (omega (arith, c.room_of-room.ensures)) c.in_ok-answer.ensures refl
+    call_concluded _ _ _ _ c.work_out-answer.auto.work _ c.in_ok-check.ensures _ _ _ _ _ c.in_ok-rows.ensures
+    c.room_of-room.ensures (omega (arith, c.room_of-room.ensures)) c.work_out-answer.ensures (grind arith)

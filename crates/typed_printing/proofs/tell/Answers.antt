@@ -1,6 +1,9 @@
--- `tell` meets its contract: the reader's refusal, or what is told of the records.
+-- `tell` meets its contract: the reader's refusal, its number and place taken by their values, or what is told of the
+-- records.
+use mathlib.Core.Path.{ap}
 use native.Mathlib.Omega.{arith}
-use Rattle.typed_printing.proofs.Telling.{bytes_within, tells_refused, tells_records}
+use Rattle.verdicts.specs.declared.ToldRefusal.{ToldRefusal}
+use Rattle.typed_printing.proofs.Telling.{bytes_within, few, tells_refused, tells_records}
 use Rattle.typed_printing.proofs.tell.Goals as goal
 
 pub write-requires : goal.write-requires
@@ -10,8 +13,10 @@ write-requires c =
 
 pub returns-in-Err : goal.returns-in-Err
 returns-in-Err c =
-    tells_refused c.read-read.result _ _ _ c.read-read.ensures c.requires.query_len _ _ _ _ _ _ _ _ c.into.result
-    _ _ _ _ c.in-Err.is c.into.ensures c.write.ensures
+    let number = ap (λ (t : ToldRefusal). t.number) c.into.ensures in
+    let place = ap (λ (t : ToldRefusal). t.place) c.into.ensures in
+    tells_refused c.read-read.result _ _ _ c.read-read.ensures c.requires.query_len _ _ _ _ _ _ _ _ _
+    _ _ _ _ _ c.in-Err.is c.write.ensures (omega (arith, number, few)) (omega (arith, place))
 
 pub slice_bounds-tell-end : goal.slice_bounds-tell-end
 slice_bounds-tell-end c =

@@ -1,7 +1,7 @@
 -- The cycle of the evaluator, function by function: each meets its contract, where those that it calls with less depth
 -- do.
 use Prim.Native.Nat.{◌-◌, ◌+◌, ◌*◌, ◌<◌}
-use mathlib.Core.Path.{refl, sym, ◌∙◌, ap, subst}
+use mathlib.Core.Path.{◌≡◌, refl, sym, ◌∙◌, ap, subst}
 use native.Mathlib.Omega.{arith}
 use Rattle.working.proofs.Choosing.{choice_stopped, choice_untrue, choice_chosen, choice_broken}
 use borrow.Author.Rules.{rules}
@@ -26,24 +26,28 @@ use Rattle.meaning.specs.Counted.{adding, evaluate}
 use Rattle.query_records.specs.Decoded.{record_of}
 use Rattle.query_records.specs.Fields.{Ranged}
 use Rattle.query_walks.proofs.Callers.{unfound_parses, shallow_parses}
-use Rattle.std.specs.Prelude.{Ok}
+use Rattle.std.specs.Prelude.{Ok, Err}
 use Rattle.stack.specs.Moves.{joined, kept, counted}
 use Rattle.stack_records.specs.Arms.{rooted, applied, valued, stepped}
 use Rattle.stack.proofs.Exits.{err_is, had_some, had_none}
 use Rattle.stack.proofs.Leaving.{leaves_as, leaves_stopped, pair_stopped, adding_as}
 use Rattle.working.proofs.+choice_each_item_turns_two_work_out.Goals as goal
 
--- `two`: the second operand is worked out behind the items of the first, which its scope may see
+-- `two`: the second operand is worked out behind the items of the first, which its scope may see. What the first came to
+-- is taken by its value: `refused`, `gave`.
 pub two-returns-in_err-first : goal.two-returns-in_err-first
 two-returns-in_err-first t c =
-    rw (err_is _ _ c.from_residual.ensures.1) (pairs_stopped _ _ _ _ _ _ _ _ _ _ c.in_err-first.ensures)
+    let refused : c.work_out.result ≡ Err c.in_err-first.field-0.0 = grind arith in
+    rw (err_is _ _ c.from_residual.ensures.1) (pairs_stopped _ _ _ _ _ _ _ _ _ _ (rw refused at c.work_out.ensures))
 
 pub two-work_out-requires-2 : goal.two-work_out-requires-2
 two-work_out-requires-2 t c =
     let p = c.requires in
     let a = c.args in
     let first = c.in_ok-first.first in
-    let f = c.in_ok-first.ensures.fit in
+    let gave : c.work_out.result ≡ Ok first = grind arith in
+    let held = rw gave at c.work_out.ensures in
+    let f = held.fit in
     let inside : Scoped (a.top + first.length) (scoping a.scope a.binding a.top first.length) =
     scoped_bound _ a.top first.length _ _ p.3 (omega arith)
     (scoped_more a.top (a.top + first.length) _ (omega arith) p.1) in (
@@ -58,15 +62,18 @@ two-work_out-requires-2 t c =
 pub two-returns-in_err-second : goal.two-returns-in_err-second
 two-returns-in_err-second t c =
     let p = c.requires in
+    let gave : c.work_out.result ≡ Ok c.in_ok-first.first = grind arith in
     rw (err_is _ _ c.from_residual-in_err-second.ensures.1)
     (pairs_broken _ _ _ _ _ _ _ _ _ _ _ _ c.inner-seen.ensures p.1 p.3
-    (omega (arith, c.work_out.auto.work, p.2.lent)) c.in_ok-first.ensures _ c.in_err-second.ensures)
+    (omega (arith, c.work_out.auto.work, p.2.lent)) (rw gave at c.work_out.ensures) _ c.in_err-second.ensures)
 
 pub two-returns : goal.two-returns
 two-returns t c =
     let p = c.requires in
+    let gave : c.work_out.result ≡ Ok c.in_ok-first.first = grind arith in
     pairs_both _ _ _ _ _ _ _ _ _ _ _ _ c.inner-seen.ensures p.1 p.3
-    (omega (arith, c.work_out.auto.work, p.2.lent)) c.in_ok-first.ensures _ _ c.beside.ensures c.in_ok-second.ensures
+    (omega (arith, c.work_out.auto.work, p.2.lent)) (rw gave at c.work_out.ensures) _ _ c.beside.ensures
+    c.in_ok-second.ensures
 
 -- `turns`: the turns that are left, behind the results so far, give what all turns give
 pub turns-loop-i-init : goal.turns-loop-i-init
