@@ -2,7 +2,7 @@
 --     refused_call     an outcome of the reader that refuses is that refusal's: zeros in all that was lent
 --     records_call     one that gives records has their bytes, and zeros after them
 --     bytes_within     the record bytes stand in the lent bytes
---     few              the numbers of refusals are 9 at most
+--     nine_at_most     the numbers of refusals are 9 at most
 --     tells_refused, tells_records     so `tell` leaves what it promises
 use Prim.Native.Nat.{ℕ, ◌-◌, ◌≤◌}
 use mathlib.Core.Path.{◌≡◌, refl, sym, ap, ap₂, ◌∙◌, subst}
@@ -27,7 +27,7 @@ use Rattle.verdicts.specs.Compared.{Told, Gave, Refused}
 use Rattle.lines.specs.Text as Text
 use Rattle.lines.specs.Text.{refused_line, same_no, Nowhere}
 use Rattle.lines.specs.Placed.{Put}
-use Rattle.lines.proofs.Putting.{put_is, put_text, put_length}
+use Rattle.lines.proofs.Putting.{put_text, put_length}
 use Rattle.lines.proofs.SameNo.{no_same_no}
 use Rattle.grammar.specs.Typed.{TypedCall, outside, inside, records_outcome}
 use Rattle.reader.specs.declared.Typed.{Typed}
@@ -96,16 +96,16 @@ records_call t l o j k (inside bs typed e) a =
     records_given l bs (query_read bs) j k (sym (ap (λ (x : Outcome ℕ). x.answer) e) ∙ a) in
     (bs, long, ap (λ (x : Outcome ℕ). x.left) e ∙ left, fits)
 
-pub few : (r : Reason) → number_of r ≤ 9
-few Reason.Record = omega arith
-few Reason.Excess = omega arith
-few Reason.Unbound = omega arith
-few Reason.Catalogue = omega arith
-few Reason.Plan = omega arith
-few Reason.Room = omega arith
-few Reason.Failure = omega arith
-few Reason.Longer = omega arith
-few Reason.Outside = omega arith
+pub nine_at_most : (r : Reason) → number_of r ≤ 9
+nine_at_most Reason.Record = omega arith
+nine_at_most Reason.Excess = omega arith
+nine_at_most Reason.Unbound = omega arith
+nine_at_most Reason.Catalogue = omega arith
+nine_at_most Reason.Plan = omega arith
+nine_at_most Reason.Room = omega arith
+nine_at_most Reason.Failure = omega arith
+nine_at_most Reason.Longer = omega arith
+nine_at_most Reason.Outside = omega arith
 
 -- the text of a refusal
 refused_quiet : (k p : ℕ) → Nowhere same_no (refused_line k p)

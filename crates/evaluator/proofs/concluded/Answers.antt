@@ -1,5 +1,4 @@
 -- `concluded` meets its contract: what stands on the stack, or the refusal of the work.
-use mathlib.Core.Path.{refl}
 use Rattle.stack.proofs.Exits.{err_is}
 use Rattle.evaluator.specs.Answers.{concluding}
 use Rattle.evaluator.proofs.concluded.Goals as goal

@@ -3,7 +3,7 @@
 use mathlib.Core.Path.{ap}
 use native.Mathlib.Omega.{arith}
 use Rattle.verdicts.specs.declared.ToldRefusal.{ToldRefusal}
-use Rattle.typed_printing.proofs.Telling.{bytes_within, few, tells_refused, tells_records}
+use Rattle.typed_printing.proofs.Telling.{bytes_within, nine_at_most, tells_refused, tells_records}
 use Rattle.typed_printing.proofs.tell.Goals as goal
 
 pub write-requires : goal.write-requires
@@ -16,7 +16,7 @@ returns-in-Err c =
     let number = ap (λ (t : ToldRefusal). t.number) c.into.ensures in
     let place = ap (λ (t : ToldRefusal). t.place) c.into.ensures in
     tells_refused c.read-read.result _ _ _ c.read-read.ensures c.requires.query_len _ _ _ _ _ _ _ _ _
-    _ _ _ _ _ c.in-Err.is c.write.ensures (omega (arith, number, few)) (omega (arith, place))
+    _ _ _ _ _ c.in-Err.is c.write.ensures (omega (arith, number, nine_at_most)) (omega (arith, place))
 
 pub slice_bounds-tell-end : goal.slice_bounds-tell-end
 slice_bounds-tell-end c =

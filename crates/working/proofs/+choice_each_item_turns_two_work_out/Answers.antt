@@ -33,8 +33,8 @@ use Rattle.stack.proofs.Exits.{err_is, had_some, had_none}
 use Rattle.stack.proofs.Leaving.{leaves_as, leaves_stopped, pair_stopped, adding_as}
 use Rattle.working.proofs.+choice_each_item_turns_two_work_out.Goals as goal
 
--- `two`: the second operand is worked out behind the items of the first, which its scope may see. What the first came to
--- is taken by its value: `refused`, `gave`.
+-- `two`: the second operand is worked out behind the items of the first, which its scope may see. What the first came
+-- to is taken by its value: `refused`, `gave`.
 pub two-returns-in_err-first : goal.two-returns-in_err-first
 two-returns-in_err-first t c =
     let refused : c.work_out.result ≡ Err c.in_err-first.field-0.0 = grind arith in
